@@ -1,0 +1,59 @@
+-- The forms of the command line.
+use Rattle.std.proofs.Common.{◌≡◌, ◌∙◌, [], ◌∷◌, List, Bool, Option, Some, true, refl, sym, ap, codes, is_some, Result, Ok, Err, IfOk, IfErr, OnOk}
+use Rattle.std.proofs.lemmas.Option.{same_Some}
+use Rattle.clap.specs.Words.{Text, is_simple_and_free, takes, fault_of}
+use Rattle.clap.proofs.OnLiterals.{clap_on_literals}
+use Rattle.clap.specs.declared.error.kind.ErrorKind.TheVariants as kind
+use Rattle.gasday_part.specs.declared.command.Command.{Command}
+use Rattle.gasday_part.specs.declared.fault.UsageFault.{UsageFault}
+use Rattle.gasday_part.specs.declared.fault.UsageFault.TheVariants.{Help, Usage, OutOfMemory}
+use Rattle.gasday_part.specs.Meaning.{Meaning, CheckAllowed, gasday, meaning_of, arguments}
+use Rattle.gasday_part.specs.Seen.{seen}
+use Rattle.gasday_part.specs.Told.{IsCommand, IsHelp, IsTold}
+
+pub is_free_gasday : is_simple_and_free gasday ≡ true
+unfolding clap_on_literals
+is_free_gasday = refl
+
+-- ---- what clap makes of each form, whatever the program is called
+
+pub alone : (words : List Text) → arguments words ≡ [] → takes gasday words ≡ true
+unfolding clap_on_literals
+alone words h = simp h
+
+pub alone_is : (words : List Text) → arguments words ≡ [] → meaning_of words ≡ Some CheckAllowed
+unfolding clap_on_literals
+alone_is words h = simp h
+
+pub check_allowed : (words : List Text) → arguments words ≡ codes "check" ∷ codes "allowed" ∷ [] → takes gasday words ≡ true
+unfolding clap_on_literals
+check_allowed words h = simp h
+
+pub check_allowed_is : (words : List Text) → arguments words ≡ codes "check" ∷ codes "allowed" ∷ [] → meaning_of words ≡ Some CheckAllowed
+unfolding clap_on_literals
+check_allowed_is words h = simp h
+
+pub help : (words : List Text) → arguments words ≡ codes "--help" ∷ [] → fault_of gasday words ≡ kind.DisplayHelp ∷ []
+unfolding clap_on_literals
+help words h = simp h
+
+pub help_of_check : (words : List Text) → arguments words ≡ codes "check" ∷ codes "--help" ∷ [] → fault_of gasday words ≡ kind.DisplayHelp ∷ []
+unfolding clap_on_literals
+help_of_check words h = simp h
+
+-- ---- what is answered to such words
+
+-- words that clap takes and that mean m are answered by m
+pub is_command : (r : Result Command UsageFault) (meaning : Option Meaning) (taken : Bool) (m : Meaning) → taken ≡ true → meaning ≡ Some m
+    → IfOk r (λ c. meaning ≡ Some (seen c)) → IfErr r (λ e. taken ≡ true → is_some meaning ≡ true → e ≡ OutOfMemory)
+    → IsCommand m r
+is_command (Ok c) meaning taken m is_taken is ok err = same_Some _ _ (sym ok ∙ is)
+is_command (Err e) meaning taken m is_taken is ok err = err is_taken (ap is_some is)
+
+-- words that ask for help alone are answered by help
+pub is_help : (r : Result Command UsageFault) (words : List Text) → fault_of gasday words ≡ kind.DisplayHelp ∷ []
+    → OnOk r (fault_of gasday words ≡ []) → IfErr r (IsTold words) → IsHelp r
+is_help (Ok c) words asks faultless told = let bad : kind.DisplayHelp ∷ [] ≡ [] = sym asks ∙ faultless in cc
+is_help (Err (Help text)) words asks faultless told = tt
+is_help (Err (Usage text)) words asks faultless told = told.1 asks
+is_help (Err OutOfMemory) words asks faultless told = tt

@@ -1,0 +1,65 @@
+-- Writing replies one after the other.
+use Rattle.std.proofs.Common.{◌≡◌, ℕ, ◌+◌, ◌<◌, ◌≤◌, List, [], ◌∷◌, ◌++◌, Option, take, length, get_or, refl, sym, ap, ◌∙◌, append_assoc, arith, inl, inr}
+use Rattle.std.specs.Io.KnownBytes.{Appends}
+use Rattle.std.proofs.KnownBytes.{Appends-trans}
+use Rattle.std.proofs.lemmas.Grind.{flat_map-append}
+use Rattle.std.proofs.lemmas.List.{take_more, take_all, append-nil, take-append-le}
+use Rattle.std.proofs.Math.Seq.{take-append-add}
+use Rattle.gd_text.specs.declared.reply.Reply.{Reply}
+use Rattle.gd_text.specs.Lines.{line_of, lines_of}
+use Rattle.std.proofs.Common.{Some, None, IfSome}
+use Rattle.std.proofs.KnownBytes.{Appends-nil}
+
+
+use Rattle.gd_text_part.specs.declared.fault.TextFault.TheVariants as fault
+use Rattle.gasday_part.specs.declared.command.Command.{Command}
+use Rattle.gasday_part.specs.declared.command.Command.TheVariants as command
+use Rattle.gasday_part.specs.Answers.{Told, MayAnswer, fault_answer}
+use Rattle.gasday_part.specs.Written.{Answers, Written, no_memory}
+
+lines-append : (a b : List Reply) → lines_of (a ++ b) ≡ lines_of a ++ lines_of b
+lines-append a b = flat_map-append line_of a b
+
+lines_more : (replies : List Reply) (i : ℕ) (r : Reply) → i < length replies → r ≡ get_or replies i r → lines_of (take (i + 1) replies) ≡ lines_of (take i replies) ++ line_of r
+lines_more replies i r lt is =
+    ap lines_of (take_more replies i r lt ∙ ap (λ (x : Reply). take i replies ++ x ∷ []) (sym is))
+    ∙ lines-append (take i replies) (r ∷ []) ∙ ap (λ t. lines_of (take i replies) ++ t) (append-nil (line_of r))
+
+-- one more reply was written
+pub goes_on : (old mid new : Option (List ℕ)) (replies : List Reply) (i : ℕ) (r : Reply) → i < length replies → r ≡ get_or replies i r
+    → Appends old mid (lines_of (take i replies)) → Appends mid new (line_of r) → Appends old new (lines_of (take (i + 1) replies))
+goes_on old mid new replies i r lt is before now = rw (lines_more replies i r lt is) (Appends-trans old mid new _ _ before now)
+
+-- part of what comes behind the first replies was written
+part : (front some more : List ℕ) (n : ℕ) → n ≤ length some → take (length front + n) (front ++ (some ++ more)) ≡ front ++ take n some
+part front some more n le = take-append-add front (some ++ more) n ∙ ap (λ t. front ++ t) (take-append-le n some more le)
+
+-- memory ran out after the first i replies
+pub no_memory_after : (old mid new : Option (List ℕ)) (answer : Told) (i n : ℕ) → n ≤ length (lines_of (no_memory ∷ []))
+    → Appends old mid (lines_of (take i answer.replies)) → Appends mid new (take n (lines_of (no_memory ∷ []))) → Written old new 2 answer
+no_memory_after old mid new answer i n le before now =
+    let front = lines_of (take i answer.replies) in
+    let told = lines_of (no_memory ∷ []) in
+    let bytes : take (length front + n) (lines_of (take i answer.replies ++ no_memory ∷ [])) ≡ front ++ take n told =
+        ap (take (length front + n)) (lines-append (take i answer.replies) (no_memory ∷ []) ∙ ap (λ t. front ++ t) (sym (append-nil told))) ∙ part front told [] n le in
+    inr (i, length front + n, rw bytes (Appends-trans old mid new front (take n told) before now), refl)
+
+-- the writer failed in the reply at i
+pub stops_in : (old mid new : Option (List ℕ)) (answer : Told) (i n : ℕ) (r : Reply) → i < length answer.replies → r ≡ get_or answer.replies i r → n ≤ length (line_of r)
+    → Appends old mid (lines_of (take i answer.replies)) → Appends mid new (take n (line_of r)) → Written old new 2 answer
+stops_in old mid new answer i n r lt is le before now =
+    let front = lines_of (take i answer.replies) in
+    let more = lines_of (no_memory ∷ []) in
+    let bytes : take (length front + n) (lines_of (take (i + 1) answer.replies ++ no_memory ∷ [])) ≡ front ++ take n (line_of r) =
+        ap (take (length front + n)) (lines-append (take (i + 1) answer.replies) (no_memory ∷ []) ∙ ap (λ t. t ++ more) (lines_more answer.replies i r lt is) ∙ append_assoc front (line_of r) more) ∙ part front (line_of r) more n le in
+    inr (i + 1, length front + n, rw bytes (Appends-trans old mid new front (take n (line_of r)) before now), refl)
+
+pub is_done : (old new : Option (List ℕ)) (answer : Told) (i : ℕ) → length answer.replies ≤ i → Appends old new (lines_of (take i answer.replies)) → Written old new answer.status answer
+is_done old new answer i le told = inl (rw (take_all i answer.replies le) at told, refl)
+
+-- memory ran out before there was any reply
+pub told_none : (k : Command) (known old new : Option (List ℕ)) (n : ℕ) → n ≤ length (lines_of (no_memory ∷ [])) → Appends old new (take n (lines_of (no_memory ∷ []))) → IfSome known (λ text. Answers k text old new 2)
+told_none command.CheckAllowed None old new n le now = tt
+told_none command.CheckAllowed (Some text) old new n le now =
+    let a = fault_answer fault.ReadFailed in
+    (a, inr (inr refl), no_memory_after old old new a 0 n le (Appends-nil old) now)

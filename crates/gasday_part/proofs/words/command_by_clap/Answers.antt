@@ -1,0 +1,13 @@
+use Rattle.std.proofs.Common.{◌≡◌, ◌∙◌, ap, map, subst, true}
+use Rattle.clap.specs.Kinds.{HasKind}
+use Rattle.clap.specs.Words.{App, app_of, fault_of, is_simple_and_free}
+use Rattle.gasday_part.proofs.Forms.{is_free_gasday}
+use Rattle.gasday_part.proofs.Telling.{told}
+use Rattle.gasday_part.proofs.words.command_by_clap.Goals as goal
+
+pub returns-clause-faults : goal.returns-clause-faults
+returns-clause-faults g c =
+    let words = map g.S.AsStr.text c.args.words.now in
+    let is_free : is_simple_and_free (app_of c.in-Ok.line) ≡ true = ap is_simple_and_free c.in-Ok.ensures ∙ is_free_gasday in
+    let has = subst (λ (a : App). HasKind (fault_of a words) c.in-Err.error) c.in-Ok.ensures (c.in-Err.ensures.kinds is_free) in
+    told words c.in-Err.error c.fault_of.result has c.fault_of.ensures

@@ -1,0 +1,23 @@
+use Rattle.std.proofs.Common.{map}
+use Rattle.gasday_part.proofs.Forms as forms
+use Rattle.gasday_part.proofs.words.command_of.Goals as goal
+
+pub returns-clause-alone : goal.returns-clause-alone
+returns-clause-alone g c h =
+    let words = map g.S.AsStr.text c.args.words.now in
+    forms.is_command _ _ _ _ (forms.alone words h) (forms.alone_is words h) c.command_by_clap.ensures.meaning c.command_by_clap.ensures.taken
+
+pub returns-clause-check_allowed : goal.returns-clause-check_allowed
+returns-clause-check_allowed g c h =
+    let words = map g.S.AsStr.text c.args.words.now in
+    forms.is_command _ _ _ _ (forms.check_allowed words h) (forms.check_allowed_is words h) c.command_by_clap.ensures.meaning c.command_by_clap.ensures.taken
+
+pub returns-clause-help : goal.returns-clause-help
+returns-clause-help g c h =
+    let words = map g.S.AsStr.text c.args.words.now in
+    forms.is_help _ words (forms.help words h) c.command_by_clap.ensures.faultless c.command_by_clap.ensures.faults
+
+pub returns-clause-help_of_check : goal.returns-clause-help_of_check
+returns-clause-help_of_check g c h =
+    let words = map g.S.AsStr.text c.args.words.now in
+    forms.is_help _ words (forms.help_of_check words h) c.command_by_clap.ensures.faultless c.command_by_clap.ensures.faults

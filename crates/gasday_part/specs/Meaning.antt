@@ -1,0 +1,46 @@
+-- The command line of the program, and what its words mean.
+use Rattle.std.specs.Prelude.{true, List, Option, Some, None, drop, codes, if◌then◌else◌}
+use Rattle.std.specs.Str.{bytes_eq}
+use Rattle.clap.specs.Words.{App, Row, Rule, Text, first_of, new_app, new_rule, subcommand_of, with_rule, with_subcommand}
+
+-- ---- the command line
+
+-- WHAT, one word that has to be there
+abbrev pub what : Rule
+what = record (new_rule (codes "what")) { value_names = 1; required = true }
+
+-- `check WHAT`
+abbrev pub check : App
+check = with_rule (new_app (codes "check")) what
+
+-- the program's command line
+abbrev pub gasday : App
+gasday = with_subcommand (new_app (codes "gasday")) check.top
+
+-- ---- the meaning of words
+
+-- what the program is to do
+pub data Meaning : Type 0 where
+  CheckAllowed : Meaning
+
+-- the check that the word after `check` names
+abbrev pub check_named : Option Text → Option Meaning
+check_named None = None
+check_named (Some word) = if bytes_eq word (codes "allowed") then Some CheckAllowed else None
+
+-- the command of a subcommand's name and of what it was given
+abbrev pub command_from : Text → Option Text → Option Meaning
+command_from name what = if bytes_eq name (codes "check") then check_named what else None
+
+-- the command of the subcommand that was met: with none it is `check allowed`
+abbrev pub command_in : Option (Text × List Row) → Option Meaning
+command_in None = Some CheckAllowed
+command_in (Some p) = command_from p.0 (first_of (codes "what") p.1)
+
+-- what the words mean, by clap's meaning of the command line
+abbrev pub meaning_of : List Text → Option Meaning
+meaning_of words = command_in (subcommand_of gasday words)
+
+-- the words after the program's own name
+abbrev pub arguments : List Text → List Text
+arguments words = drop 1 words

@@ -1,0 +1,78 @@
+//! What a command answers to a text.
+
+ghost use Rattle.std.specs.Prelude.{◌≡◌, ◌≢◌, [], ◌∷◌, IfOk, IfSome};
+ghost use Rattle.gasday_part.specs.Answers as spec;
+ghost use Rattle.gasday_part.specs.AnswerSeen.{answer_seen};
+ghost use Rattle.gd_text_part.specs.declared.fault.TextFault.TheVariants.{OutOfMemory};
+
+use crate::command::Command;
+use gd_text::{Asked, InputFault, Reply, allowed_replies, asked_of, broken_reply};
+use gd_text_part::{Form, TextFault, read_all};
+use std::alloc::{AllocError, Global};
+use std::io::Read;
+
+/// The rows that answer a text, and the exit status that goes with them.
+#[derive(Drop)]
+pub(crate) struct Answer {
+    pub(crate) replies: Vec<Reply>,
+    pub(crate) status: u8,
+}
+
+// An answer of one row.
+fn of_one(alloc: Global, reply: Reply, status: u8) -> Result<Answer, AllocError>
+    ensures { IfOk result (λ a. answer_seen a ≡ record { replies = reply ∷ []; status = status }) }
+{
+    let mut replies = Vec::new(alloc);
+    replies.push(reply)?;
+    Ok(Answer { replies, status })
+}
+
+// The answer to a text that could not be read, or whose rows were refused.
+fn of_fault(alloc: Global, fault: TextFault) -> Result<Answer, AllocError>
+    ensures { IfOk result (λ a. answer_seen a ≡ spec.fault_answer fault) }
+{
+    let reply = match fault {
+        TextFault::ReadFailed => Reply::InputFault(InputFault::ReadFailed),
+        TextFault::TooLong => Reply::InputFault(InputFault::TooLong),
+        TextFault::Row { row, cause } => Reply::RowFault(row, cause),
+        TextFault::OutOfMemory => Reply::InputFault(InputFault::OutOfMemory),
+    };
+    of_one(alloc, reply, 2)
+}
+
+// Whether the schedule is allowed, with its class totals, or what is first wrong with it.
+fn check_allowed(alloc: Global, asked: &Asked) -> Result<Answer, AllocError>
+    ensures { IfOk result (λ a. spec.ChecksAllowed asked.now.question asked.now.schedule (answer_seen a)) }
+{
+    match asked.schedule.allowed(alloc, &asked.question) {
+        Ok(()) => {
+            let replies = allowed_replies(alloc, &asked.question, &asked.schedule)?;
+            Ok(Answer { replies, status: 0 })
+        }
+        Err(broken) => match broken_reply(&asked.question, &asked.schedule, broken) {
+            Some(reply) => of_one(alloc, reply, 1),
+            None => Err(AllocError),
+        },
+    }
+}
+
+/// What a command answers to all that a reader has left.
+pub(crate) fn answer_to<R: Read>(
+    alloc: Global,
+    command: Command,
+    reader: &mut R,
+) -> Result<Answer, AllocError>
+    ensures { IfSome (R.remaining reader.old) (λ text. IfOk result (λ a. spec.MayAnswer command text (answer_seen a))) }
+{
+    let Command::CheckAllowed = command;
+    let rows = match read_all(alloc, Form::CheckAllowed, reader) {
+        Ok(rows) => rows,
+        Err(TextFault::OutOfMemory) => return Err(AllocError),
+        Err(fault) => return of_fault(alloc, fault),
+    };
+    match asked_of(alloc, rows.as_slice()) {
+        Ok(asked) => check_allowed(alloc, &asked),
+        Err(TextFault::OutOfMemory) => Err(AllocError),
+        Err(fault) => of_fault(alloc, fault),
+    }
+}

@@ -1,0 +1,56 @@
+//! A command from the bytes of a reader to the bytes of a writer.
+
+ghost use Rattle.std.specs.Prelude.{◌≡◌, ◌≤◌, ℕ, [], ◌∷◌, IfSome, length, take};
+ghost use Rattle.std.specs.Io.KnownBytes.{Appends};
+ghost use Rattle.gd_text.specs.Lines.{lines_of};
+ghost use Rattle.gasday_part.specs.Written.{Answers, Written, no_memory};
+
+use crate::answer::answer_to;
+use crate::command::Command;
+use gd_text::Reply;
+use gd_text_part::write_bytes;
+use std::alloc::Global;
+use std::io::{Read, Write};
+
+// Prints replies in order. Answers the status, or 2 where not all was written.
+fn tell<W: Write>(alloc: Global, writer: &mut W, replies: &[Reply], status: u8) -> u8
+    ensures { Written (W.contents writer.old) (W.contents writer.new) result (record { replies = replies.now; status = status }) }
+{
+    'replies: for reply in replies {
+        let Ok(line) = reply.to_string(alloc) else {
+            return tell_no_memory(writer);
+        };
+        if write_bytes(writer, line.as_bytes()).is_err() {
+            return 2;
+        }
+    }
+    status
+}
+
+// Tells that memory ran out, which needs none.
+fn tell_no_memory<W: Write>(writer: &mut W) -> u8
+    ensures front { (n : ℕ) × (n ≤ length (lines_of (no_memory ∷ []))) × Appends (W.contents writer.old) (W.contents writer.new) (take n (lines_of (no_memory ∷ []))) }
+    ensures status { result ≡ 2 }
+{
+    let _ = write_bytes(writer, b"fault,0,OutOfMemory,,,,,\n");
+    2
+}
+
+/// Reads a text, writes the command's answer to it and nothing else, and answers the exit status: 0 where the answer
+/// is good, 1 where a schedule is broken, 2 after a fault of the text, the reader, the writer or memory.
+///
+/// Where memory runs out, the first rows of the answer are followed by `fault,0,OutOfMemory` or by nothing. After a
+/// failed write nothing more is written.
+pub fn run<R: Read, W: Write>(
+    alloc: Global,
+    command: Command,
+    reader: &mut R,
+    writer: &mut W,
+) -> u8
+    ensures { IfSome (R.remaining reader.old) (λ text. Answers command text (W.contents writer.old) (W.contents writer.new) result) }
+{
+    match answer_to(alloc, command, reader) {
+        Ok(answer) => tell(alloc, writer, answer.replies.as_slice(), answer.status),
+        Err(_) => tell_no_memory(writer),
+    }
+}

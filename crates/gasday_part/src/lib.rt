@@ -1,0 +1,22 @@
+//! The program `gasday`: from words to the command that they name, and from the bytes of a text to the bytes of the
+//! command's answer.
+//!
+//! `clap` reads the words, and its contract says exactly what it makes of them, so the contract
+//! of `command_of` is exact too, but for want of memory. The texts of help and of usage faults are
+//! only tested.
+#![tactic(auto)]
+
+mod answer;
+mod command;
+mod engine;
+mod fault;
+mod line;
+mod words;
+
+pub use command::Command;
+pub use engine::run;
+pub use fault::UsageFault;
+pub use words::command_of;
+
+#[cfg(test)]
+mod tests;

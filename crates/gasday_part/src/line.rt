@@ -1,0 +1,59 @@
+//! The command line as `clap` is told of it.
+
+ghost use Rattle.std.specs.Prelude.{◌≡◌, IfOk, false};
+ghost use Rattle.clap.specs.Words.{app_of};
+ghost use Rattle.clap.specs.declared.builder.command.Command.TheViews.{out-Command};
+ghost use Rattle.gasday_part.specs.Meaning as spec;
+
+use clap::{Arg, Command as CommandLine};
+use std::alloc::{AllocError, Global};
+
+const ABOUT: &str = "The scheduling office of one gas pipeline.
+
+It reads rows of eight comma-separated fields from standard input, and prints
+its answer to standard output as rows of the same form.";
+
+const AFTER_HELP: &str = "With no command it does what 'check allowed' does.
+
+Example:
+  gasday check allowed < examples/two-lines.csv
+
+Exit status:
+  0  the answer is good
+  1  the answer is broken
+  2  a fault of the command line, the input, the output or the memory";
+
+const ABOUT_CHECK: &str =
+    "'check allowed' tells whether a schedule is allowed, and its total by class";
+
+const HELP_OF_WHAT: &str = "allowed: each line's quantity lies between its floor and its ceiling,
+each load is within its capacity, and each pool is in balance";
+
+const AFTER_HELP_OF_CHECK: &str = "Example:
+  gasday check allowed < examples/two-lines.csv";
+
+// `check WHAT`. clap takes any WHAT: a list of possible values would put references into the meaning
+// of the line, so the program tells the words apart itself.
+fn check<'a>(alloc: Global) -> Result<CommandLine<'a>, AllocError>
+    ensures app { IfOk result (λ c. app_of c ≡ spec.check) }
+    ensures local { IfOk result (λ c. (out-Command c).has_globals ≡ false) }
+{
+    let what = Arg::new(alloc, "what")
+        .value_name("WHAT")
+        .required(true)
+        .help(HELP_OF_WHAT);
+    CommandLine::new(alloc, "check")
+        .about(ABOUT_CHECK)
+        .after_help(AFTER_HELP_OF_CHECK)
+        .arg(what)
+}
+
+/// The command line of the program, with the texts of its help.
+pub(crate) fn gasday<'a>(alloc: Global) -> Result<CommandLine<'a>, AllocError>
+    ensures { IfOk result (λ c. app_of c ≡ spec.gasday) }
+{
+    CommandLine::new(alloc, "gasday")
+        .about(ABOUT)
+        .after_help(AFTER_HELP)
+        .subcommand(check(alloc)?)
+}

@@ -1,0 +1,92 @@
+//! Which words are taken, and what the texts say.
+
+use super::*;
+use std::test::Fail;
+
+const LINES: [(&[&str], &str); 19] = [
+    (&[], "allowed"),
+    (&["gasday"], "allowed"),
+    (&["gasday", "check", "allowed"], "allowed"),
+    (&["out/another-name", "check", "allowed"], "allowed"),
+    (&["gasday", "--help"], "help"),
+    (&["gasday", "-h"], "help"),
+    (&["gasday", "help"], "help"),
+    (&["gasday", "help", "check"], "help"),
+    (&["gasday", "check", "--help"], "help"),
+    (&["gasday", "nonsense"], "usage"),
+    (&["gasday", ""], "usage"),
+    (&["gasday", "Check", "allowed"], "usage"),
+    (&["gasday", "allowed"], "usage"),
+    (&["gasday", "check"], "usage"),
+    (&["gasday", "check", "all"], "usage"),
+    (&["gasday", "check", "allowed", "allowed"], "usage"),
+    (&["gasday", "--nonsense"], "usage"),
+    (&["gasday", "check", "--nonsense"], "usage"),
+    (&["gasday", "check", "allowed", "--nonsense"], "usage"),
+];
+
+// The kind of the answer, with its text, or None where memory is short.
+fn told(rt: &HostRuntime, words: &[&str]) -> Option<(&'static str, String)> {
+    match command_of(rt.alloc(), words) {
+        Ok(Command::CheckAllowed) => Some(("allowed", String::new(rt.alloc()))),
+        Err(UsageFault::Help(text)) => Some(("help", text)),
+        Err(UsageFault::Usage(text)) => Some(("usage", text)),
+        Err(UsageFault::OutOfMemory) => None,
+    }
+}
+
+fn reads_well(answer: &str, text: &str) -> bool {
+    match answer {
+        "help" => {
+            text.contains("'check allowed'")
+                && text.contains("\n  gasday check allowed < examples/two-lines.csv\n")
+                && text.ends_with('\n')
+        }
+        "usage" => text.starts_with("error: ") && text.ends_with(" try '--help'.\n"),
+        _ => text.is_empty(),
+    }
+}
+
+#[test]
+fn each_line_has_its_answer(rt: HostRuntime) -> Result<(), Fail> {
+    for (words, wanted) in LINES {
+        let (answer, text) = told(&rt, words).ok_or("out of memory")?;
+        assert_eq!(rt; answer, wanted, "at {words:?}");
+        assert!(rt; reads_well(answer, text.as_str()), "at {words:?}: {text}");
+    }
+    Ok(())
+}
+
+// Holds with any one allocation failing.
+#[test]
+fn want_of_memory_changes_no_answer(rt: HostRuntime) {
+    for (words, wanted) in LINES {
+        let first = told(&rt, words);
+        let second = told(&rt, words);
+        if let (Some(first), Some(second)) = (first, second) {
+            assert_eq!(rt; first.0, wanted, "at {words:?}");
+            assert_eq!(rt; second.0, wanted, "at {words:?}");
+            assert_eq!(rt; first.1.as_str(), second.1.as_str(), "at {words:?}");
+        }
+    }
+}
+
+#[test]
+fn a_fault_is_shown_by_its_text(rt: HostRuntime) -> Result<(), Fail> {
+    let alloc = rt.alloc();
+    let Err(fault) = command_of(alloc, &["gasday", "check", "all"]) else {
+        return Err(Fail::from("there is no such check"));
+    };
+    let shown = fault.to_string(alloc)?;
+    assert!(rt;
+        shown
+            .as_str()
+            .starts_with("error: invalid value 'all' for '<WHAT>'\n"),
+        "{shown}"
+    );
+    assert_eq!(rt;
+        UsageFault::OutOfMemory.to_string(alloc)?.as_str(),
+        "error: out of memory\n"
+    );
+    Ok(())
+}

@@ -1,0 +1,62 @@
+//! From words to a command.
+
+ghost use Rattle.std.specs.Prelude.{◌≡◌, ◌∷◌, [], map, codes, Some, true, is_some, IfOk, IfErr, OnOk};
+ghost use Rattle.clap.specs.Words.{takes, fault_of as kinds_of_fault};
+ghost use Rattle.gasday_part.specs.Meaning as spec;
+ghost use Rattle.gasday_part.specs.Seen.{seen};
+ghost use Rattle.gasday_part.specs.Told.{IsTold, IsCommand, IsHelp};
+
+use crate::command::{Command, command_in, word_after_check};
+use crate::fault::{UsageFault, fault_of, unknown_check};
+use crate::line::gasday;
+use std::alloc::Global;
+use std::convert::AsStr;
+
+// The command that the words name, by `clap`.
+fn command_by_clap<'a, S: AsStr>(alloc: Global, words: &'a [S]) -> Result<Command, UsageFault>
+    ensures meaning { IfOk result (λ c.
+        spec.meaning_of (map S.text words.now) ≡ Some (seen c)) }
+    ensures faultless { OnOk result (kinds_of_fault spec.gasday (map S.text words.now) ≡ []) }
+    ensures taken { IfErr result (λ e. takes spec.gasday (map S.text words.now) ≡ true
+        → is_some (spec.meaning_of (map S.text words.now)) ≡ true → e ≡ UsageFault.OutOfMemory) }
+    ensures faults { IfErr result (IsTold (map S.text words.now)) }
+{
+    let Ok(line) = gasday(alloc) else {
+        return Err(UsageFault::OutOfMemory);
+    };
+    match line.try_get_matches_from(words) {
+        Ok(matches) => match command_in(&matches) {
+            Some(command) => Ok(command),
+            None => Err(unknown_check(alloc, word_after_check(&matches))),
+        },
+        Err(error) => Err(fault_of(alloc, &error)),
+    }
+}
+
+/// The command that the words name. The first word is the program's own name, whatever it is; with
+/// no word behind it the command is `check allowed`.
+///
+/// `Help` comes where the words ask for it, and `Usage` where they are at fault: an unknown word or
+/// option, a word that is missing, or one too many. `OutOfMemory` can come at any words.
+pub fn command_of<'a, S: AsStr>(alloc: Global, words: &'a [S]) -> Result<Command, UsageFault>
+    // A command is what the words mean, and comes only where clap finds no fault in them.
+    ensures meaning { IfOk result (λ c.
+        spec.meaning_of (map S.text words.now) ≡ Some (seen c)) }
+    ensures faultless { OnOk result (kinds_of_fault spec.gasday (map S.text words.now) ≡ []) }
+    // Where clap takes the words and they mean a command, only memory can be short.
+    ensures taken { IfErr result (λ e. takes spec.gasday (map S.text words.now) ≡ true
+        → is_some (spec.meaning_of (map S.text words.now)) ≡ true → e ≡ UsageFault.OutOfMemory) }
+    // Help or Usage comes only where the words mean no command.
+    ensures faults { IfErr result (IsTold (map S.text words.now)) }
+
+    // The forms of the program.
+    ensures alone { spec.arguments (map S.text words.now) ≡ []
+        → IsCommand spec.CheckAllowed result }
+    ensures check_allowed { spec.arguments (map S.text words.now)
+        ≡ codes "check" ∷ codes "allowed" ∷ [] → IsCommand spec.CheckAllowed result }
+    ensures help { spec.arguments (map S.text words.now) ≡ codes "--help" ∷ [] → IsHelp result }
+    ensures help_of_check { spec.arguments (map S.text words.now)
+        ≡ codes "check" ∷ codes "--help" ∷ [] → IsHelp result }
+{
+    command_by_clap(alloc, words)
+}

@@ -1,0 +1,4 @@
+pub mod InForceLemmas
+pub mod Limits
+pub mod Sound
+pub mod Asked

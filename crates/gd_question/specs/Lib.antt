@@ -1,0 +1,5 @@
+pub mod Posed
+pub mod Known
+pub mod InForce
+pub mod Rows
+pub mod Inside

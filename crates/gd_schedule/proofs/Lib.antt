@@ -1,0 +1,6 @@
+pub mod Parts
+pub mod Sizes
+pub mod Tenths
+pub mod Faults
+pub mod Compared
+mod Rows

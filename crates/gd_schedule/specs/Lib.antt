@@ -1,0 +1,6 @@
+pub mod Small
+pub mod First
+pub mod Table
+pub mod Sizes
+pub mod Exact
+pub mod Order

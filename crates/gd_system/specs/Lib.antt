@@ -1,0 +1,7 @@
+pub mod Join
+pub mod Pipeline
+pub mod Route
+pub mod Known
+pub mod BuilderInside
+pub mod SystemInside
+pub mod Row

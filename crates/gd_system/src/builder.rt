@@ -1,0 +1,291 @@
+ghost use Rattle.std.specs.Prelude.{◌≡◌, ℕ, ◌+◌, ◌<◌, ◌≤◌, ◌++◌, ◌∷◌, [], List, length, false, None, MatchResult, IfSome, IfOk, IfErr, OnOk, OnErr, Ok, Err, ◌⊎◌};
+ghost use Rattle.gd_rules.specs.Question.Element.{Segment as segment};
+ghost use Rattle.gd_tree.specs.Grown.{Joins};
+ghost use Rattle.gd_system.specs.Join.{join_of};
+ghost use Rattle.gd_system.specs.Pipeline.{empty, known, names_of, same_name, entered, checked_segment, checked_point, checked_pool, after_segment, after_point, after_pool};
+ghost use Rattle.indexmap.specs.IndexSet.{spare};
+ghost use Rattle.indexmap.specs.IndexMap.{spare as map_spare, get};
+
+use crate::{BuildFault, Kind, PlaceId, Point, Pool, System};
+use gd_tree::{Segment, Tree};
+use gd_units::{Dth, Name};
+use indexmap::{IndexMap, IndexSet};
+use std::alloc::Global;
+use std::marker::Model;
+
+// The places that a segment joins, of those known so far: the first segment brings both, each later one exactly one.
+fn joining(
+    segments: usize,
+    same: bool,
+    from: Option<usize>,
+    to: Option<usize>,
+) -> Option<(usize, usize)>
+    requires few { segments ≤ 4095 }
+    requires from_known { IfSome from (λ f. f ≤ segments) }
+    requires to_known { IfSome to (λ t. t ≤ segments) }
+    ensures is { result ≡ join_of segments same from to }
+    ensures joins { IfSome result (λ p. (capacity : ℕ) → Joins segments (segment p.0 p.1 capacity)) }
+{
+    if segments == 0 {
+        return if same { None } else { Some((0, 1)) };
+    }
+    match (from, to) {
+        (Some(f), None) => Some((f, segments + 1)),
+        (None, Some(t)) => Some((segments + 1, t)),
+        _ => None,
+    }
+}
+
+// Enters a name in room that is there: it goes last, where it is new.
+fn enter(names: &mut IndexSet<Name>, name: Name)
+    requires { 0 < spare names.old }
+    ensures keys { names.new.keys ≡ entered names.old.keys name }
+    ensures room { spare names.old ≤ spare names.new + 1 }
+{
+    names.insert(name).unwrap();
+}
+
+// Adds a new name with its value, last, in room that is there.
+fn add<V: Drop>(entries: &mut IndexMap<Name, V>, name: Name, value: V)
+    requires room { 0 < map_spare entries.old }
+    requires new { get same_name entries.old name ≡ None }
+    ensures { entries.new.entries ≡ entries.old.entries ++ (name, value) ∷ [] }
+{
+    entries.insert(name, value).unwrap();
+}
+
+/// A pipeline in the making. After any refusal it is as it was.
+#[derive(Drop)]
+pub struct SystemBuilder {
+    places: IndexSet<Name>,
+    segments: IndexSet<Name>,
+    tree: Tree,
+    points: IndexMap<Name, Point>,
+    pools: IndexMap<Name, Pool>,
+}
+
+impl Model for SystemBuilder {
+    ghost use Rattle.gd_system.specs.Pipeline.{Pipeline};
+
+    ghost Value = { Pipeline };
+
+    ghost use Rattle.gd_system.specs.BuilderInside.{pipeline_of, IsBuiltInside};
+
+    ghost view = { pipeline_of };
+
+    ghost invariant = { IsBuiltInside };
+}
+
+impl SystemBuilder {
+    pub fn new(alloc: Global) -> SystemBuilder
+        ensures { result ≡ empty }
+    {
+        SystemBuilder {
+            places: IndexSet::new(alloc),
+            segments: IndexSet::new(alloc),
+            tree: Tree::new(alloc),
+            points: IndexMap::new(alloc),
+            pools: IndexMap::new(alloc),
+        }
+    }
+
+    // Whether a segment, point or pool has the name.
+    fn has(&self, name: Name) -> bool
+        ensures { result ≡ known (names_of self.now) name }
+    {
+        self.segments.contains(&name)
+            || self.points.contains_key(&name)
+            || self.pools.contains_key(&name)
+    }
+
+    // The first refusal of a segment, or the places that it joins.
+    fn check_segment(&self, name: Name, from: Name, to: Name) -> Result<(usize, usize), BuildFault>
+        ensures is { result ≡ checked_segment self.now name from to }
+        ensures joins { IfOk result (λ p. (capacity : ℕ) → Joins (length self.now.tree) (segment p.0 p.1 capacity)) }
+        ensures few { OnOk result (length self.now.tree < 4095) }
+    {
+        if self.has(name) {
+            return Err(BuildFault::Duplicate);
+        }
+        let count = self.tree.len();
+        let a = self.places.get_index_of(&from);
+        let b = self.places.get_index_of(&to);
+        match joining(count, from == to, a, b) {
+            None => Err(BuildFault::Unjoined),
+            Some(joined) => {
+                if count >= 4095 {
+                    Err(BuildFault::TooMany)
+                } else {
+                    Ok(joined)
+                }
+            }
+        }
+    }
+
+    /// Adds a segment of this capacity in dekatherms a gas day, one way between two places. The first segment brings
+    /// both places, each later one exactly one.
+    ///
+    /// # Errors
+    ///
+    /// `Duplicate`, `Unjoined` and `TooMany` (the 4,097th place), the first of these that applies, and else
+    /// `OutOfMemory`.
+    pub fn segment(
+        &mut self,
+        name: Name,
+        from: Name,
+        to: Name,
+        capacity: Dth,
+    ) -> Result<(), BuildFault>
+        ensures done { OnOk result (after_segment self.old name from to capacity ≡ Ok self.new) }
+        ensures refused { (fault : BuildFault) → after_segment self.old name from to capacity ≡ Err fault → result ≡ Err fault }
+        ensures memory { IfErr result (λ fault. (after_segment self.old name from to capacity ≡ Err fault) ⊎ (fault ≡ BuildFault.OutOfMemory)) }
+        ensures kept { OnErr result (self.new ≡ self.old) }
+    {
+        let (f, t) = self.check_segment(name, from, to)?;
+        if self.segments.reserve(1).is_err() || self.places.reserve(2).is_err() {
+            return Err(BuildFault::OutOfMemory);
+        }
+        let next = Segment {
+            from: f as u32,
+            to: t as u32,
+            capacity,
+        };
+        if self.tree.push(next).is_err() {
+            return Err(BuildFault::OutOfMemory);
+        }
+        enter(&mut self.places, from);
+        enter(&mut self.places, to);
+        enter(&mut self.segments, name);
+        Ok(())
+    }
+
+    // The first refusal of a point, or the number of its place.
+    fn check_point(&self, name: Name, place: Name) -> Result<usize, BuildFault>
+        ensures is { result ≡ checked_point self.now name place }
+        ensures within { IfOk result (λ at. at < length self.now.places) }
+        ensures few { OnOk result (length self.now.points < 4096) }
+        ensures new { OnOk result (known (names_of self.now) name ≡ false) }
+    {
+        if self.has(name) {
+            return Err(BuildFault::Duplicate);
+        }
+        match self.places.get_index_of(&place) {
+            None => Err(BuildFault::UnknownPlace),
+            Some(at) => {
+                if self.points.len() >= 4096 {
+                    Err(BuildFault::TooMany)
+                } else {
+                    Ok(at)
+                }
+            }
+        }
+    }
+
+    // The first refusal of a pool, or the number of its place.
+    fn check_pool(&self, name: Name, place: Name) -> Result<usize, BuildFault>
+        ensures is { result ≡ checked_pool self.now name place }
+        ensures within { IfOk result (λ at. at < length self.now.places) }
+        ensures few { OnOk result (length self.now.pools < 256) }
+        ensures new { OnOk result (known (names_of self.now) name ≡ false) }
+    {
+        if self.has(name) {
+            return Err(BuildFault::Duplicate);
+        }
+        match self.places.get_index_of(&place) {
+            None => Err(BuildFault::UnknownPlace),
+            Some(at) => {
+                if self.pools.len() >= 256 {
+                    Err(BuildFault::TooMany)
+                } else {
+                    Ok(at)
+                }
+            }
+        }
+    }
+
+    /// Adds a point at a place that a segment joins, with the name of its operator and its capacity in dekatherms a
+    /// gas day.
+    ///
+    /// # Errors
+    ///
+    /// `Duplicate`, `UnknownPlace` and `TooMany` (the 4,097th point), the first of these that applies, and else
+    /// `OutOfMemory`.
+    pub fn point(
+        &mut self,
+        name: Name,
+        kind: Kind,
+        place: Name,
+        operator: Name,
+        capacity: Dth,
+    ) -> Result<(), BuildFault>
+        ensures done { OnOk result (after_point self.old name kind place operator capacity ≡ Ok self.new) }
+        ensures refused { (fault : BuildFault) → after_point self.old name kind place operator capacity ≡ Err fault → result ≡ Err fault }
+        ensures memory { IfErr result (λ fault. (after_point self.old name kind place operator capacity ≡ Err fault) ⊎ (fault ≡ BuildFault.OutOfMemory)) }
+        ensures kept { OnErr result (self.new ≡ self.old) }
+    {
+        let at = self.check_point(name, place)?;
+        if self.points.reserve(1).is_err() {
+            return Err(BuildFault::OutOfMemory);
+        }
+        let point = Point {
+            kind,
+            place: PlaceId(at),
+            operator,
+            capacity,
+        };
+        add(&mut self.points, name, point);
+        Ok(())
+    }
+
+    /// Adds a pool at a place that a segment joins, with the name of its operator.
+    ///
+    /// # Errors
+    ///
+    /// `Duplicate`, `UnknownPlace` and `TooMany` (the 257th pool), the first of these that applies, and else
+    /// `OutOfMemory`.
+    pub fn pool(&mut self, name: Name, place: Name, operator: Name) -> Result<(), BuildFault>
+        ensures done { OnOk result (after_pool self.old name place operator ≡ Ok self.new) }
+        ensures refused { (fault : BuildFault) → after_pool self.old name place operator ≡ Err fault → result ≡ Err fault }
+        ensures memory { IfErr result (λ fault. (after_pool self.old name place operator ≡ Err fault) ⊎ (fault ≡ BuildFault.OutOfMemory)) }
+        ensures kept { OnErr result (self.new ≡ self.old) }
+    {
+        let at = self.check_pool(name, place)?;
+        if self.pools.reserve(1).is_err() {
+            return Err(BuildFault::OutOfMemory);
+        }
+        let pool = Pool {
+            place: PlaceId(at),
+            operator,
+        };
+        add(&mut self.pools, name, pool);
+        Ok(())
+    }
+
+    /// The system that is built. It needs no memory.
+    ///
+    /// # Errors
+    ///
+    /// `NoSegment`, with the builder as it was.
+    pub fn finish(self) -> Result<System, (BuildFault, SystemBuilder)>
+        ensures done { IfOk result (λ system. (system ≡ self) × (0 < length self.tree)) }
+        ensures refused { IfErr result (λ r. (r.0 ≡ BuildFault.NoSegment) × (r.1 ≡ self) × (length self.tree ≡ 0)) }
+    {
+        if self.tree.len() == 0 {
+            return Err((BuildFault::NoSegment, self));
+        }
+        let SystemBuilder {
+            places,
+            segments,
+            tree,
+            points,
+            pools,
+        } = self;
+        Ok(System {
+            places,
+            segments,
+            tree,
+            points,
+            pools,
+        })
+    }
+}

@@ -1,0 +1,189 @@
+ghost use Rattle.std.specs.Prelude.{◌≡◌, ℕ, ◌<◌, ◌≤◌, length, Some, None, IfSome, IfOk, slice_get};
+ghost use Rattle.std.specs.Option.{option_map};
+ghost use Rattle.gd_rules.specs.Tree.{IsTree};
+ghost use Rattle.gd_system.specs.Pipeline.{elements_of, names_of, element_of, operator_at, number_of, element_number};
+ghost use Rattle.gd_system.specs.Route.{element_at};
+ghost use Rattle.gd_system.specs.Known.{IsSystem};
+ghost use Rattle.gd_system.specs.Row.{IsRow};
+
+use crate::{Element, Kind, Part, PlaceId, Point, Pool};
+use gd_tree::Tree;
+use gd_units::Name;
+use indexmap::{IndexMap, IndexSet};
+use std::marker::Model;
+
+/// A pipeline by name: the tree of its segments, and the points and pools at its places.
+///
+/// Elements are numbered from 0: segments, then points, then pools, each in order of entry. Places are numbered from
+/// 0 in order of first mention. No call takes memory but `route`.
+#[derive(Drop)]
+pub struct System {
+    pub(crate) places: IndexSet<Name>,
+    pub(crate) segments: IndexSet<Name>,
+    pub(crate) tree: Tree,
+    pub(crate) points: IndexMap<Name, Point>,
+    pub(crate) pools: IndexMap<Name, Pool>,
+}
+
+impl Model for System {
+    ghost use Rattle.gd_system.specs.Pipeline.{Pipeline};
+
+    ghost Value = { Pipeline };
+
+    ghost use Rattle.gd_system.specs.SystemInside.{pipeline_of, IsSystemInside};
+
+    ghost view = { pipeline_of };
+
+    ghost invariant = { IsSystemInside };
+}
+
+// What is kept of an element, with the name of a point or pool.
+#[derive(Clone, Copy)]
+enum Row {
+    Segment,
+    Point(Name, Point),
+    Pool(Name, Pool),
+}
+
+impl System {
+    /// What holds of every system.
+    pub fn known(&self)
+        ensures known { IsSystem self.now }
+        ensures tree { IsTree (length self.now.places) (elements_of self.now) }
+    {
+        let _ = &self.tree;
+    }
+
+    pub fn place_count(&self) -> usize
+        ensures { result ≡ length self.now.places }
+    {
+        self.places.len()
+    }
+
+    pub fn segment_count(&self) -> usize
+        ensures { result ≡ length self.now.tree }
+    {
+        self.tree.len()
+    }
+
+    pub fn point_count(&self) -> usize
+        ensures { result ≡ length self.now.points }
+    {
+        self.points.len()
+    }
+
+    pub fn pool_count(&self) -> usize
+        ensures { result ≡ length self.now.pools }
+    {
+        self.pools.len()
+    }
+
+    pub fn element_count(&self) -> usize
+        ensures { result ≡ length (elements_of self.now) }
+    {
+        self.tree.len() + self.points.len() + self.pools.len()
+    }
+
+    /// The tree of segments by numbers.
+    pub fn tree(&self) -> &Tree
+        ensures { result.now ≡ self.now.tree }
+    {
+        &self.tree
+    }
+
+    fn row(&self, element: Element) -> Row
+        requires { element.0 < length (elements_of self.now) }
+        ensures { IsRow self.now element.0 result }
+    {
+        let segments = self.tree.len();
+        if element.0 < segments {
+            return Row::Segment;
+        }
+        let at = element.0 - segments;
+        if let Some((name, point)) = self.points.get_index(at) {
+            return Row::Point(*name, *point);
+        }
+        match self.pools.get_index(at - self.points.len()) {
+            Some((name, pool)) => Row::Pool(*name, *pool),
+            None => unreachable!(),
+        }
+    }
+
+    /// What the element is.
+    pub fn part(&self, element: Element) -> Part
+        requires { element.0 < length (elements_of self.now) }
+        ensures { element_of result ≡ element_at self.now element.0 }
+    {
+        match self.row(element) {
+            Row::Segment => {
+                let segment = self.tree.segment(element.0);
+                Part::Segment(
+                    PlaceId(segment.from as usize),
+                    PlaceId(segment.to as usize),
+                    segment.capacity,
+                )
+            }
+            Row::Point(_, point) => match point.kind {
+                Kind::Receipt => Part::Receipt(point.place, point.capacity),
+                Kind::Delivery => Part::Delivery(point.place, point.capacity),
+            },
+            Row::Pool(_, pool) => Part::Pool(pool.place),
+        }
+    }
+
+    /// The name of the element.
+    pub fn name(&self, element: Element) -> Name
+        requires { element.0 < length (elements_of self.now) }
+        ensures { slice_get (names_of self.now) element.0 ≡ Some result }
+    {
+        match self.row(element) {
+            Row::Segment => *self.segments.get_index(element.0).unwrap(),
+            Row::Point(name, _) => name,
+            Row::Pool(name, _) => name,
+        }
+    }
+
+    /// The operator of the point or pool, and none of a segment.
+    pub fn operator(&self, element: Element) -> Option<Name>
+        requires { element.0 < length (elements_of self.now) }
+        ensures { result ≡ operator_at self.now element.0 }
+    {
+        match self.row(element) {
+            Row::Segment => None,
+            Row::Point(_, point) => Some(point.operator),
+            Row::Pool(_, pool) => Some(pool.operator),
+        }
+    }
+
+    /// The name of the place.
+    pub fn place_name(&self, place: PlaceId) -> Name
+        requires { place.0 < length self.now.places }
+        ensures { slice_get self.now.places place.0 ≡ Some result }
+    {
+        *self.places.get_index(place.0).unwrap()
+    }
+
+    /// The place of this name.
+    pub fn place(&self, name: Name) -> Option<PlaceId>
+        ensures is { option_map (λ p. p.0) result ≡ number_of self.now.places name }
+        ensures within { IfSome result (λ p. p.0 < length self.now.places) }
+    {
+        self.places.get_index_of(&name).map(PlaceId)
+    }
+
+    /// The segment, point or pool of this name.
+    pub fn element(&self, name: Name) -> Option<Element>
+        ensures is { option_map (λ e. e.0) result ≡ element_number self.now name }
+        ensures within { IfSome result (λ e. e.0 < length (elements_of self.now)) }
+    {
+        let segments = self.tree.len();
+        if let Some(at) = self.segments.get_index_of(&name) {
+            return Some(Element(at));
+        }
+        if let Some(at) = self.points.get_index_of(&name) {
+            return Some(Element(segments + at));
+        }
+        let at = self.pools.get_index_of(&name)?;
+        Some(Element(segments + self.points.len() + at))
+    }
+}

@@ -1,0 +1,4 @@
+pub mod Building
+pub mod Values
+pub mod Lines
+pub mod Replies

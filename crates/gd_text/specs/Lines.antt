@@ -1,0 +1,41 @@
+-- How replies are printed: rows of eight fields, each ended by a line feed.
+use Rattle.std.specs.Prelude.{ℕ, ◌-◌, List, [], ◌∷◌, ◌++◌, length, replicate, codes}
+use Rattle.std.specs.List.{flat_map, join_with_byte}
+use Rattle.std.specs.Fmt.{decimal}
+use Rattle.gd_text_part.specs.Causes.{cause_name, cause_detail}
+use Rattle.gd_text.specs.declared.reply.Reply.{Reply}
+use Rattle.gd_text.specs.declared.reply.Reply.TheVariants as reply
+use Rattle.gd_text.specs.declared.reply.InputFault.{InputFault}
+use Rattle.gd_text.specs.declared.reply.InputFault.TheVariants as input
+
+-- the fields, and empty ones up to eight
+abbrev pub eight : List (List ℕ) → List (List ℕ)
+eight fields = fields ++ replicate (8 - length fields) []
+
+-- the fields with commas between, and a line feed
+abbrev pub line : List (List ℕ) → List ℕ
+line fields = join_with_byte 44 (eight fields) ++ 10 ∷ []
+
+abbrev pub fault_name : InputFault → List ℕ
+fault_name input.ReadFailed = codes "ReadFailed"
+fault_name input.TooLong = codes "TooLong"
+fault_name input.OutOfMemory = codes "OutOfMemory"
+
+abbrev pub fields_of : Reply → List (List ℕ)
+fields_of (reply.RowFault n c) = codes "fault" ∷ decimal n ∷ cause_name c ∷ cause_detail c ∷ []
+fields_of (reply.InputFault f) = codes "fault" ∷ codes "0" ∷ fault_name f ∷ []
+fields_of reply.Allowed = codes "allowed" ∷ []
+fields_of reply.Shape = codes "broken" ∷ codes "Shape" ∷ []
+fields_of (reply.BelowFloor i) = codes "broken" ∷ codes "BelowFloor" ∷ decimal i ∷ []
+fields_of (reply.AboveCeiling i) = codes "broken" ∷ codes "AboveCeiling" ∷ decimal i ∷ []
+fields_of (reply.OverCapacity name) = codes "broken" ∷ codes "OverCapacity" ∷ name ∷ []
+fields_of (reply.Unbalanced name) = codes "broken" ∷ codes "Unbalanced" ∷ name ∷ []
+fields_of (reply.Total c q) = codes "total" ∷ decimal c ∷ decimal q ∷ []
+
+-- the bytes of a reply
+abbrev pub line_of : Reply → List ℕ
+line_of r = line (fields_of r)
+
+-- the bytes of replies, one after the other
+abbrev pub lines_of : List Reply → List ℕ
+lines_of replies = flat_map line_of replies

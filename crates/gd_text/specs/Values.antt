@@ -1,0 +1,104 @@
+-- What the rows of a text build: a pipeline, a question about it, and a schedule; or the first refusal, at its row.
+use Rattle.std.specs.Prelude.{ℕ, ◌+◌, ◌==◌, List, [], ◌∷◌, length, Option, Some, None, Result, Ok, Err, if◌then◌else◌}
+use Rattle.gd_text_part.specs.Rows.{◌>>=◌}
+use Rattle.gd_text_part.specs.declared.fault.Cause.TheVariants as cause
+use Rattle.gd_text_part.specs.declared.fault.TextFault.{TextFault}
+use Rattle.gd_text_part.specs.declared.fault.TextFault.TheVariants as fault
+use Rattle.gd_text_part.specs.declared.row.Row.{Row}
+use Rattle.gd_text_part.specs.declared.row.Row.TheVariants as row
+use Rattle.gd_system.specs.Pipeline.{Pipeline, empty, after_segment, after_point, after_pool, element_number}
+use Rattle.gd_system.specs.declared.BuildFault.{BuildFault}
+use Rattle.gd_system.specs.declared.BuildFault.TheVariants as build
+use Rattle.gd_system.specs.declared.RouteFault.{RouteFault}
+use Rattle.gd_system.specs.declared.RouteFault.TheVariants as route
+use Rattle.gd_question.specs.Posed.{Posed, posed, after_capacity, after_line}
+use Rattle.gd_question.specs.declared.fault.CapacityFault.{CapacityFault}
+use Rattle.gd_question.specs.declared.fault.CapacityFault.TheVariants as capacity
+use Rattle.gd_question.specs.declared.fault.LineFault.{LineFault}
+use Rattle.gd_question.specs.declared.fault.LineFault.TheVariants as line
+use Rattle.gd_text.specs.Building.{built_from, told}
+
+-- A refusal is told at its row, by its name.
+abbrev pub build_told : ℕ → BuildFault → TextFault
+build_told n build.Duplicate = fault.Row n cause.Duplicate
+build_told n build.Unjoined = fault.Row n cause.Unjoined
+build_told n build.UnknownPlace = fault.Row n cause.UnknownPlace
+build_told n build.TooMany = fault.Row n cause.TooMany
+build_told n build.NoSegment = fault.Row n cause.NoSegment
+build_told n build.OutOfMemory = fault.OutOfMemory
+
+abbrev pub route_told : ℕ → RouteFault → TextFault
+route_told n route.UnknownEnd = fault.Row n cause.UnknownEnd
+route_told n route.WrongEnd = fault.Row n cause.WrongEnd
+route_told n route.SameEnd = fault.Row n cause.SameEnd
+route_told n route.NoRoute = fault.Row n cause.NoRoute
+route_told n route.OutOfMemory = fault.OutOfMemory
+
+abbrev pub line_told : ℕ → LineFault → TextFault
+line_told n (line.Route f) = route_told n f
+line_told n line.FloorAboveCeiling = fault.Row n cause.FloorAboveCeiling
+line_told n line.BadClass = fault.Row n cause.BadClass
+line_told n line.TooMany = fault.Row n cause.TooMany
+line_told n line.OutOfMemory = fault.OutOfMemory
+
+abbrev pub capacity_told : ℕ → CapacityFault → TextFault
+capacity_told n capacity.UnknownElement = fault.Row n cause.UnknownElement
+capacity_told n capacity.IsPool = fault.Row n cause.IsPool
+
+-- The pipeline after row n: a segment, point or pool is added to it, and other rows say nothing of it.
+abbrev pub pipeline_step : ℕ → Pipeline → Row → Result Pipeline TextFault
+pipeline_step n p (row.Segment name from to limit) = told (build_told n) (after_segment p name from to limit)
+pipeline_step n p (row.Point name kind place operator limit) = told (build_told n) (after_point p name kind place operator limit)
+pipeline_step n p (row.Pool name place operator) = told (build_told n) (after_pool p name place operator)
+pipeline_step n p (row.Question book cycle round) = Ok p
+pipeline_step n p (row.Capacity element limit) = Ok p
+pipeline_step n p (row.Line origin dest class floor ceiling) = Ok p
+pipeline_step n p (row.Sched at quantity) = Ok p
+
+abbrev pub finished : ℕ → Pipeline → Result Pipeline TextFault
+finished n p = if length p.tree == 0 then Err (fault.Row n cause.NoSegment) else Ok p
+
+-- The pipeline of all rows. Without a segment it is refused, at one row past the last.
+abbrev pub pipeline_of : List Row → Result Pipeline TextFault
+pipeline_of rows = built_from pipeline_step 1 empty rows >>= finished (length rows + 1)
+
+-- The book, cycle and round of the first `question` row.
+abbrev pub head_of : List Row → Option (List ℕ × ℕ × ℕ)
+head_of [] = None
+head_of (row.Question book cycle round ∷ rows) = Some (book, cycle, round)
+head_of (r ∷ rows) = head_of rows
+
+abbrev pub capacity_at : ℕ → Posed → Option ℕ → ℕ → Result Posed TextFault
+capacity_at n q None limit = Err (fault.Row n cause.UnknownElement)
+capacity_at n q (Some e) limit = told (capacity_told n) (after_capacity q e limit)
+
+-- The question after row n: a capacity is set, a line is added, and other rows say nothing of it.
+abbrev pub question_step : ℕ → Posed → Row → Result Posed TextFault
+question_step n q (row.Capacity element limit) = capacity_at n q (element_number q.pipeline element) limit
+question_step n q (row.Line origin dest class floor ceiling) = told (line_told n) (after_line q origin dest class floor ceiling)
+question_step n q (row.Segment name from to limit) = Ok q
+question_step n q (row.Point name kind place operator limit) = Ok q
+question_step n q (row.Pool name place operator) = Ok q
+question_step n q (row.Question book cycle round) = Ok q
+question_step n q (row.Sched at quantity) = Ok q
+
+abbrev pub question_under : List Row → Pipeline → Option (List ℕ × ℕ × ℕ) → Result Posed TextFault
+question_under rows p None = Err (fault.Row (length rows + 1) cause.Missing)
+question_under rows p (Some head) = built_from question_step 1 (posed p head.0 head.1 head.2) rows
+
+-- The question of all rows about a pipeline.
+abbrev pub question_of : List Row → Pipeline → Result Posed TextFault
+question_of rows p = question_under rows p (head_of rows)
+
+-- The quantities of the `sched` rows, in order.
+abbrev pub quantities_of : List Row → List ℕ
+quantities_of [] = []
+quantities_of (row.Sched at quantity ∷ rows) = quantity ∷ quantities_of rows
+quantities_of (r ∷ rows) = quantities_of rows
+
+abbrev pub with_schedule : List Row → Posed → Result (Posed × List ℕ) TextFault
+with_schedule rows q = Ok (q, quantities_of rows)
+
+-- The question of a text and the schedule that it offers, or the first refusal.
+abbrev pub asked_of : List Row → Result (Posed × List ℕ) TextFault
+asked_of rows = (pipeline_of rows >>= question_of rows) >>= with_schedule rows

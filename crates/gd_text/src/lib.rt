@@ -1,0 +1,10 @@
+//! What texts say: the values that rows build, and the rows that tell an answer.
+#![tactic(auto)]
+
+mod replies;
+mod reply;
+mod values;
+
+pub use replies::{allowed_replies, broken_reply};
+pub use reply::{InputFault, Reply};
+pub use values::{Asked, asked_of};

@@ -1,0 +1,72 @@
+ghost use Rattle.std.specs.Prelude.{◌≡◌, ◌≢◌, ◌<◌, ◌≤◌, ℕ, length, IfOk, IfSome, IfNone, MatchOption, OnOk, ◌++◌, ◌∷◌, [], ◌-◌, get_or};
+ghost use Rattle.gd_schedule.specs.Exact.{Explains};
+ghost use Rattle.gd_schedule.specs.declared.Broken.TheVariants.{OutOfMemory};
+ghost use Rattle.gd_text.specs.Replies as spec;
+
+use crate::reply::Reply;
+use gd_question::Question;
+use gd_schedule::{Broken, Schedule, Totals};
+use gd_units::Class;
+use std::alloc::{AllocError, Global};
+
+/// The greater of 4 and the greatest class of the question's lines.
+fn last_class(question: &Question) -> u8
+    ensures is { result ≡ spec.last_class question.now.asked }
+    ensures high { result ≤ 8 }
+{
+    let mut last = 4;
+    for line in 0..question.line_count() {
+        last = last.max(question.class(line).number());
+    }
+    last
+}
+
+/// Appends the row of a class's total.
+fn push_total(rows: &mut Vec<Reply>, totals: &Totals, class: Class) -> Result<(), AllocError>
+    ensures { OnOk result (rows.new.items ≡ rows.old.items ++ Reply.Total class (get_or totals.now (class - 1) 0) ∷ []) }
+{
+    rows.push(Reply::Total(u64::from(class.number()), totals.of(class)))?;
+    Ok(())
+}
+
+/// The rows of an allowed schedule: `allowed`, and a total for each class from 1 on.
+pub fn allowed_replies(
+    alloc: Global,
+    question: &Question,
+    schedule: &Schedule,
+) -> Result<Vec<Reply>, AllocError>
+    requires { length schedule.now ≡ length question.now.asked.lines }
+    ensures { IfOk result (λ rows. rows.items ≡ spec.allowed_rows question.now.asked schedule.now) }
+{
+    let totals = match schedule.totals(question) {
+        Some(totals) => totals,
+        None => unreachable!(),
+    };
+    let mut rows = Vec::new(alloc);
+    rows.push(Reply::Allowed)?;
+    let last = last_class(question);
+    'classes: for at in 0..last {
+        match Class::new(at + 1) {
+            Some(class) => push_total(&mut rows, &totals, class)?,
+            None => unreachable!(),
+        }
+    }
+    Ok(rows)
+}
+
+/// The row of a schedule that isn't allowed; `None` where memory ran out before that was known.
+pub fn broken_reply(question: &Question, schedule: &Schedule, broken: Broken) -> Option<Reply>
+    requires { Explains question.now.asked schedule.now broken }
+    ensures told { IfSome result (spec.Tells question.now broken) }
+    ensures memory { IfNone result (broken ≡ OutOfMemory) }
+{
+    question.known();
+    match broken {
+        Broken::Shape => Some(Reply::Shape),
+        Broken::BelowFloor(line) => Some(Reply::BelowFloor(line as u64 + 1)),
+        Broken::AboveCeiling(line) => Some(Reply::AboveCeiling(line as u64 + 1)),
+        Broken::OverCapacity(element) => Some(Reply::OverCapacity(question.name(element))),
+        Broken::Unbalanced(element) => Some(Reply::Unbalanced(question.name(element))),
+        Broken::OutOfMemory => None,
+    }
+}

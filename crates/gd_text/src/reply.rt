@@ -1,0 +1,67 @@
+ghost use Rattle.std.specs.Prelude.{Some};
+ghost use Rattle.gd_text.specs.Lines.{fault_name, line_of};
+
+use gd_text_part::Cause;
+use gd_units::Name;
+use std::fmt;
+
+/// A fault that no row is blamed for.
+#[derive(Clone, Copy, Debug, PartialEq, Eq)]
+pub enum InputFault {
+    ReadFailed,
+    TooLong,
+    OutOfMemory,
+}
+
+/// A row of the output: eight fields and a line feed.
+#[derive(Clone, Copy, Debug, PartialEq, Eq)]
+pub enum Reply {
+    /// The first fault of a text, at its row.
+    RowFault(u64, Cause),
+    /// A fault of reading or of memory.
+    InputFault(InputFault),
+    /// The schedule is allowed.
+    Allowed,
+    /// The schedule has not one quantity for each line.
+    Shape,
+    /// The schedule is not allowed: this line, counted from 1, is the first below its floor.
+    BelowFloor(u64),
+    /// This line, counted from 1, is the first above its ceiling.
+    AboveCeiling(u64),
+    /// This segment or point is the first over its capacity.
+    OverCapacity(Name),
+    /// This pool is the first out of balance.
+    Unbalanced(Name),
+    /// The total of a class, in dekatherms a gas day.
+    Total(u64, u64),
+}
+
+impl fmt::Display for InputFault {
+    ghost output = { λ f. Some (fault_name f) };
+
+    fn fmt<W: fmt::Write>(&self, f: &mut fmt::Formatter<W>) -> fmt::Result {
+        match self {
+            InputFault::ReadFailed => f.write_str("ReadFailed"),
+            InputFault::TooLong => f.write_str("TooLong"),
+            InputFault::OutOfMemory => f.write_str("OutOfMemory"),
+        }
+    }
+}
+
+impl fmt::Display for Reply {
+    ghost output = { λ r. Some (line_of r) };
+
+    fn fmt<W: fmt::Write>(&self, f: &mut fmt::Formatter<W>) -> fmt::Result {
+        match self {
+            Reply::RowFault(row, cause) => write!(f, "fault,{row},{cause},,,,\n"),
+            Reply::InputFault(fault) => write!(f, "fault,0,{fault},,,,,\n"),
+            Reply::Allowed => f.write_str("allowed,,,,,,,\n"),
+            Reply::Shape => f.write_str("broken,Shape,,,,,,\n"),
+            Reply::BelowFloor(line) => write!(f, "broken,BelowFloor,{line},,,,,\n"),
+            Reply::AboveCeiling(line) => write!(f, "broken,AboveCeiling,{line},,,,,\n"),
+            Reply::OverCapacity(element) => write!(f, "broken,OverCapacity,{element},,,,,\n"),
+            Reply::Unbalanced(element) => write!(f, "broken,Unbalanced,{element},,,,,\n"),
+            Reply::Total(class, quantity) => write!(f, "total,{class},{quantity},,,,,\n"),
+        }
+    }
+}

@@ -1,0 +1,214 @@
+ghost use Rattle.std.specs.Prelude.{◌≡◌, ◌⊎◌, ◌+◌, ◌<◌, ◌≤◌, ◌^◌, ℕ, length, List, Ok, Err, Some, None, Option, option_map, IfOk, MatchResult};
+ghost use Rattle.gd_text.specs.Building.{Builds};
+ghost use Rattle.gd_text.specs.Values as spec;
+
+use gd_question::{CapacityFault, LineFault, Question, QuestionBuilder};
+use gd_schedule::Schedule;
+use gd_system::{BuildFault, RouteFault, System, SystemBuilder};
+use gd_text_part::{Cause, Row, TextFault};
+use gd_units::{CycleNo, Dth, Name, Round};
+use std::alloc::{AllocError, Global};
+
+/// A question, and a schedule offered for it.
+#[derive(Drop)]
+pub struct Asked {
+    pub question: Question,
+    pub schedule: Schedule,
+}
+
+fn build_fault(row: u64, fault: BuildFault) -> TextFault
+    ensures { result ≡ spec.build_told row fault }
+{
+    let cause = match fault {
+        BuildFault::Duplicate => Cause::Duplicate,
+        BuildFault::Unjoined => Cause::Unjoined,
+        BuildFault::UnknownPlace => Cause::UnknownPlace,
+        BuildFault::TooMany => Cause::TooMany,
+        BuildFault::NoSegment => Cause::NoSegment,
+        BuildFault::OutOfMemory => return TextFault::OutOfMemory,
+    };
+    TextFault::Row { row, cause }
+}
+
+fn route_fault(row: u64, fault: RouteFault) -> TextFault
+    ensures { result ≡ spec.route_told row fault }
+{
+    let cause = match fault {
+        RouteFault::UnknownEnd => Cause::UnknownEnd,
+        RouteFault::WrongEnd => Cause::WrongEnd,
+        RouteFault::SameEnd => Cause::SameEnd,
+        RouteFault::NoRoute => Cause::NoRoute,
+        RouteFault::OutOfMemory => return TextFault::OutOfMemory,
+    };
+    TextFault::Row { row, cause }
+}
+
+fn line_fault(row: u64, fault: LineFault) -> TextFault
+    ensures { result ≡ spec.line_told row fault }
+{
+    let cause = match fault {
+        LineFault::Route(fault) => return route_fault(row, fault),
+        LineFault::FloorAboveCeiling => Cause::FloorAboveCeiling,
+        LineFault::BadClass => Cause::BadClass,
+        LineFault::TooMany => Cause::TooMany,
+        LineFault::OutOfMemory => return TextFault::OutOfMemory,
+    };
+    TextFault::Row { row, cause }
+}
+
+fn capacity_fault(row: u64, fault: CapacityFault) -> TextFault
+    ensures { result ≡ spec.capacity_told row fault }
+{
+    let cause = match fault {
+        CapacityFault::UnknownElement => Cause::UnknownElement,
+        CapacityFault::IsPool => Cause::IsPool,
+    };
+    TextFault::Row { row, cause }
+}
+
+/// Adds the segment, point or pool of a row.
+fn add_part(builder: &mut SystemBuilder, number: u64, row: &Row) -> Result<(), TextFault>
+    ensures { MatchResult result (λ _. spec.pipeline_step number builder.old row.now ≡ Ok builder.new) (λ e. (e ≡ TextFault.OutOfMemory) ⊎ (spec.pipeline_step number builder.old row.now ≡ Err e)) }
+{
+    let added = match *row {
+        Row::Segment {
+            name,
+            from,
+            to,
+            capacity,
+        } => builder.segment(name, from, to, capacity),
+        Row::Point {
+            name,
+            kind,
+            place,
+            operator,
+            capacity,
+        } => builder.point(name, kind, place, operator, capacity),
+        Row::Pool {
+            name,
+            place,
+            operator,
+        } => builder.pool(name, place, operator),
+        _ => Ok(()),
+    };
+    match added {
+        Ok(()) => Ok(()),
+        Err(fault) => Err(build_fault(number, fault)),
+    }
+}
+
+/// The system that the rows build.
+fn system_of(alloc: Global, rows: &[Row]) -> Result<System, TextFault>
+    ensures { Builds (λ system. system) result (spec.pipeline_of rows.now) }
+{
+    let mut builder = SystemBuilder::new(alloc);
+    'rows: for (index, row) in rows.iter().enumerate() {
+        if let Err(fault) = add_part(&mut builder, index as u64 + 1, row) {
+            return Err(fault);
+        }
+    }
+    match builder.finish() {
+        Ok(system) => Ok(system),
+        Err(_) => Err(TextFault::Row {
+            row: rows.len() as u64 + 1,
+            cause: Cause::NoSegment,
+        }),
+    }
+}
+
+/// The book, cycle and round of the first `question` row.
+fn head_of(rows: &[Row]) -> Option<(Name, CycleNo, Round)>
+    ensures { result ≡ spec.head_of rows.now }
+{
+    'rows: for row in rows {
+        if let Row::Question { book, cycle, round } = *row {
+            return Some((book, cycle, round));
+        }
+    }
+    None
+}
+
+fn set_capacity(
+    builder: &mut QuestionBuilder,
+    number: u64,
+    element: Name,
+    capacity: Dth,
+) -> Result<(), TextFault>
+    ensures { MatchResult result (λ _. spec.question_step number builder.old (Row.Capacity element capacity) ≡ Ok builder.new) (λ e. spec.question_step number builder.old (Row.Capacity element capacity) ≡ Err e) }
+{
+    let Some(element) = builder.system().element(element) else {
+        return Err(TextFault::Row {
+            row: number,
+            cause: Cause::UnknownElement,
+        });
+    };
+    match builder.capacity(element, capacity) {
+        Ok(()) => Ok(()),
+        Err(fault) => Err(capacity_fault(number, fault)),
+    }
+}
+
+/// Adds the line of a row, or sets its capacity.
+fn add_line(builder: &mut QuestionBuilder, number: u64, row: &Row) -> Result<(), TextFault>
+    ensures { MatchResult result (λ _. spec.question_step number builder.old row.now ≡ Ok builder.new) (λ e. (e ≡ TextFault.OutOfMemory) ⊎ (spec.question_step number builder.old row.now ≡ Err e)) }
+{
+    match *row {
+        Row::Capacity { element, capacity } => set_capacity(builder, number, element, capacity),
+        Row::Line {
+            origin,
+            dest,
+            class,
+            floor,
+            ceiling,
+        } => match builder.line(origin, dest, class, floor, ceiling) {
+            Ok(()) => Ok(()),
+            Err(fault) => Err(line_fault(number, fault)),
+        },
+        _ => Ok(()),
+    }
+}
+
+/// The question that the rows ask about a system.
+fn question_of(alloc: Global, rows: &[Row], system: System) -> Result<Question, TextFault>
+    ensures { Builds (λ question. question) result (spec.question_of rows.now system) }
+{
+    let Some(head) = head_of(rows) else {
+        return Err(TextFault::Row {
+            row: rows.len() as u64 + 1,
+            cause: Cause::Missing,
+        });
+    };
+    let mut builder = QuestionBuilder::new(alloc, system, head.0, head.1, head.2)?;
+    'rows: for (index, row) in rows.iter().enumerate() {
+        if let Err(fault) = add_line(&mut builder, index as u64 + 1, row) {
+            return Err(fault);
+        }
+    }
+    Ok(builder.finish())
+}
+
+/// The quantities of the `sched` rows, in order.
+fn quantities_of(alloc: Global, rows: &[Row]) -> Result<Vec<Dth>, AllocError>
+    ensures { IfOk result (λ v. v.items ≡ spec.quantities_of rows.now) }
+{
+    let mut quantities = Vec::new(alloc);
+    'rows: for row in rows {
+        if let Row::Sched { quantity, .. } = *row {
+            quantities.push(quantity)?;
+        }
+    }
+    Ok(quantities)
+}
+
+/// The question that a text asks and the schedule that it offers, or the first refusal of a builder, told at its row; a missing segment at one row past the last.
+pub fn asked_of(alloc: Global, rows: &[Row]) -> Result<Asked, TextFault>
+    ensures { Builds (λ a. (a.question, a.schedule)) result (spec.asked_of rows.now) }
+{
+    let system = system_of(alloc, rows)?;
+    let question = question_of(alloc, rows, system)?;
+    let Ok(quantities) = quantities_of(alloc, rows) else {
+        return Err(TextFault::OutOfMemory);
+    };
+    let schedule = Schedule::of(quantities);
+    Ok(Asked { question, schedule })
+}

@@ -1,0 +1,5 @@
+pub mod AllRecords
+pub mod Digits
+pub mod EmptyFields
+pub mod RecordsTaken
+pub mod TextScan

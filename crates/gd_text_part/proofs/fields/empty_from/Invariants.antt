@@ -1,0 +1,7 @@
+use Rattle.std.proofs.Common.{◌≡◌, ◌-◌}
+use Rattle.csv.specs.Records.{fields_of}
+use Rattle.gd_text_part.specs.Rows.{empty_run}
+use Rattle.gd_text_part.proofs.fields.empty_from.Given as goal
+
+abbrev pub invariant-fields : goal.invariant-fields
+invariant-fields l = empty_run (fields_of l.row) l.at (9 - l.at) ≡ empty_run (fields_of l.fn.row) l.fn.k (9 - l.fn.k)

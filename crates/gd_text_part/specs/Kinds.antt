@@ -1,0 +1,80 @@
+-- The kinds of rows.
+use Rattle.std.specs.Prelude.{ℕ, Bool, true, false, ◌==◌, List, Option, Some, None, codes, if◌then◌else◌}
+use Rattle.std.specs.Cmp.Lexicographic.{pointwise}
+use Rattle.gd_text_part.specs.declared.kind.RowKind.{RowKind}
+use Rattle.gd_text_part.specs.declared.kind.RowKind.TheVariants as kind
+use Rattle.gd_text_part.specs.declared.kind.Form.{Form}
+use Rattle.gd_text_part.specs.declared.kind.Form.TheVariants as form
+
+abbrev pub is_text : List ℕ → List ℕ → Bool
+is_text a b = pointwise ◌==◌ a b
+
+-- the kind of event row that a first field names
+abbrev pub event_of : List ℕ → Option RowKind
+event_of text =
+    if is_text text (codes "nominate") then Some kind.Nominate
+    else if is_text text (codes "respond") then Some kind.Respond
+    else if is_text text (codes "post") then Some kind.Post
+    else if is_text text (codes "freeze") then Some kind.Freeze
+    else if is_text text (codes "settle") then Some kind.Settle
+    else if is_text text (codes "publish") then Some kind.Publish
+    else if is_text text (codes "declare") then Some kind.Declare
+    else if is_text text (codes "waive") then Some kind.Waive
+    else if is_text text (codes "skip") then Some kind.Skip
+    else if is_text text (codes "session") then Some kind.Session
+    else if is_text text (codes "desk") then Some kind.Desk
+    else None
+
+-- the kind that a first field names
+abbrev pub kind_of : List ℕ → Option RowKind
+kind_of text =
+    if is_text text (codes "segment") then Some kind.Segment
+    else if is_text text (codes "point") then Some kind.Point
+    else if is_text text (codes "pool") then Some kind.Pool
+    else if is_text text (codes "contract") then Some kind.Contract
+    else if is_text text (codes "question") then Some kind.Question
+    else if is_text text (codes "day") then Some kind.Day
+    else if is_text text (codes "capacity") then Some kind.Capacity
+    else if is_text text (codes "carry") then Some kind.Carry
+    else if is_text text (codes "line") then Some kind.Line
+    else if is_text text (codes "sched") then Some kind.Sched
+    else if is_text text (codes "price") then Some kind.Price
+    else if is_text text (codes "inside") then Some kind.Inside
+    else event_of text
+
+-- the stage that a kind stands in
+abbrev pub stage_of : RowKind → ℕ
+stage_of kind.Segment = 1
+stage_of kind.Point = 1
+stage_of kind.Pool = 1
+stage_of kind.Contract = 2
+stage_of kind.Question = 3
+stage_of kind.Day = 3
+stage_of kind.Capacity = 4
+stage_of kind.Carry = 4
+stage_of kind.Line = 5
+stage_of kind.Sched = 6
+stage_of kind.Price = 7
+stage_of kind.Inside = 8
+stage_of kind.Nominate = 9
+stage_of kind.Respond = 9
+stage_of kind.Post = 9
+stage_of kind.Freeze = 9
+stage_of kind.Settle = 9
+stage_of kind.Publish = 9
+stage_of kind.Declare = 9
+stage_of kind.Waive = 9
+stage_of kind.Skip = 9
+stage_of kind.Session = 9
+stage_of kind.Desk = 9
+
+-- whether the command takes rows of this kind
+abbrev pub takes : Form → RowKind → Bool
+takes form.CheckAllowed kind.Segment = true
+takes form.CheckAllowed kind.Point = true
+takes form.CheckAllowed kind.Pool = true
+takes form.CheckAllowed kind.Question = true
+takes form.CheckAllowed kind.Capacity = true
+takes form.CheckAllowed kind.Line = true
+takes form.CheckAllowed kind.Sched = true
+takes form.CheckAllowed k = false

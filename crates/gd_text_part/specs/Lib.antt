@@ -1,0 +1,7 @@
+pub mod Causes
+pub mod Csv
+pub mod Kinds
+pub mod Numbers
+pub mod Places
+pub mod Rows
+pub mod Texts

@@ -1,0 +1,68 @@
+-- The order of rows: which may follow which, and the first fault of a record.
+use Rattle.std.specs.Prelude.{ℕ, ◌+◌, Bool, true, false, ◌==◌, ◌&&◌, ◌||◌, not, nat_le, List, length, Option, Some, None, Result, Ok, Err, if◌then◌else◌}
+use Rattle.gd_text_part.specs.Kinds.{kind_of, stage_of, takes}
+use Rattle.gd_text_part.specs.Rows.{◌>>=◌, field, segment_row, point_row, pool_row, question_row, capacity_row, line_row, sched_row}
+use Rattle.gd_text_part.specs.declared.fault.Cause.{Cause}
+use Rattle.gd_text_part.specs.declared.fault.Cause.TheVariants as cause
+use Rattle.gd_text_part.specs.declared.fault.RowFault.{RowFault}
+use Rattle.gd_text_part.specs.declared.kind.RowKind.{RowKind}
+use Rattle.gd_text_part.specs.declared.kind.RowKind.TheVariants as kind
+use Rattle.gd_text_part.specs.declared.kind.Form.{Form}
+use Rattle.gd_text_part.specs.declared.order.Place.{Place}
+use Rattle.gd_text_part.specs.declared.row.Row.{Row}
+
+-- where a text begins
+abbrev pub start : Place
+start = record { stage = 0; headed = false; scheds = 0 }
+
+-- the head of a text, which stands once
+abbrev pub is_head : RowKind → Bool
+is_head kind.Question = true
+is_head kind.Day = true
+is_head k = false
+
+abbrev pub is_sched : RowKind → Bool
+is_sched kind.Sched = true
+is_sched k = false
+
+-- whether a row of this kind may stand here: the command takes it, its stage is not below that of the row
+-- before it, and it is no second head
+abbrev pub may_stand : Form → Place → RowKind → Bool
+may_stand form place k = takes form k && nat_le place.stage (stage_of k) && not (is_head k && place.headed)
+
+-- where the rows stand after one of this kind
+abbrev pub after : Place → RowKind → Place
+after place k = record { stage = stage_of k; headed = place.headed || is_head k; scheds = if is_sched k then place.scheds + 1 else place.scheds }
+
+-- the row of this kind that the fields are, or the least bad field
+abbrev pub body : RowKind → Place → List (List ℕ) → Result Row Cause
+body kind.Segment place fields = segment_row fields
+body kind.Point place fields = point_row fields
+body kind.Pool place fields = pool_row fields
+body kind.Question place fields = question_row fields
+body kind.Capacity place fields = capacity_row fields
+body kind.Line place fields = line_row fields
+body kind.Sched place fields = sched_row (place.scheds + 1) fields
+body k place fields = Err cause.Order
+
+abbrev pub known_row : Form → Place → List (List ℕ) → Option RowKind → Result (Row × Place) Cause
+known_row form place fields None = Err cause.UnknownKind
+known_row form place fields (Some k) = if may_stand form place k then (body k place fields >>= λ r. Ok (r, after place k)) else Err cause.Order
+
+-- the row that a record is and where the rows stand after it, or its first fault: the count of fields, the
+-- kind, the order, then the fields
+abbrev pub row_at : Form → Place → List (List ℕ) → Result (Row × Place) Cause
+row_at form place fields = if length fields == 8 then known_row form place fields (kind_of (field fields 1)) else Err cause.FieldCount
+
+-- a fault, told at row n
+abbrev pub at_row : {A : Type 0} → ℕ → Result A Cause → Result A RowFault
+at_row n (Ok x) = Ok x
+at_row n (Err c) = Err (record { row = n; cause = c })
+
+-- what record n of a text is, or the fault that it shows
+abbrev pub row_of : Form → Place → ℕ → List (List ℕ) → Result (Row × Place) RowFault
+row_of form place n fields = at_row n (row_at form place fields)
+
+-- the fault that the end of a text shows, n being one past its last row: its head is missing
+abbrev pub at_end : Place → ℕ → Result (Unit {0}) RowFault
+at_end place n = if place.headed then Ok tt else Err (record { row = n; cause = cause.Missing })

@@ -1,0 +1,140 @@
+ghost use Rattle.std.specs.Prelude.{◌≡◌};
+ghost use Rattle.gd_text_part.specs.Kinds as spec;
+
+/// The command that reads a text.
+#[derive(Clone, Copy, Debug, PartialEq, Eq)]
+pub enum Form {
+    /// `check allowed`: a system, a question and a schedule.
+    CheckAllowed,
+}
+
+/// The kinds of rows, each named by the first field. A command takes some of them.
+#[derive(Clone, Copy, Debug, PartialEq, Eq)]
+pub enum RowKind {
+    Segment,
+    Point,
+    Pool,
+    Contract,
+    Question,
+    Day,
+    Capacity,
+    Carry,
+    Line,
+    Sched,
+    Price,
+    Inside,
+    Nominate,
+    Respond,
+    Post,
+    Freeze,
+    Settle,
+    Publish,
+    Declare,
+    Waive,
+    Skip,
+    Session,
+    Desk,
+}
+
+/// The kind that a first field names.
+pub(crate) fn kind_of(text: &[u8]) -> Option<RowKind>
+    ensures { result ≡ spec.kind_of text.now }
+{
+    if text == b"segment".as_slice() {
+        Some(RowKind::Segment)
+    } else if text == b"point".as_slice() {
+        Some(RowKind::Point)
+    } else if text == b"pool".as_slice() {
+        Some(RowKind::Pool)
+    } else if text == b"contract".as_slice() {
+        Some(RowKind::Contract)
+    } else if text == b"question".as_slice() {
+        Some(RowKind::Question)
+    } else if text == b"day".as_slice() {
+        Some(RowKind::Day)
+    } else if text == b"capacity".as_slice() {
+        Some(RowKind::Capacity)
+    } else if text == b"carry".as_slice() {
+        Some(RowKind::Carry)
+    } else if text == b"line".as_slice() {
+        Some(RowKind::Line)
+    } else if text == b"sched".as_slice() {
+        Some(RowKind::Sched)
+    } else if text == b"price".as_slice() {
+        Some(RowKind::Price)
+    } else if text == b"inside".as_slice() {
+        Some(RowKind::Inside)
+    } else {
+        event_of(text)
+    }
+}
+
+// The kind of event row that a first field names.
+fn event_of(text: &[u8]) -> Option<RowKind>
+    ensures { result ≡ spec.event_of text.now }
+{
+    if text == b"nominate".as_slice() {
+        Some(RowKind::Nominate)
+    } else if text == b"respond".as_slice() {
+        Some(RowKind::Respond)
+    } else if text == b"post".as_slice() {
+        Some(RowKind::Post)
+    } else if text == b"freeze".as_slice() {
+        Some(RowKind::Freeze)
+    } else if text == b"settle".as_slice() {
+        Some(RowKind::Settle)
+    } else if text == b"publish".as_slice() {
+        Some(RowKind::Publish)
+    } else if text == b"declare".as_slice() {
+        Some(RowKind::Declare)
+    } else if text == b"waive".as_slice() {
+        Some(RowKind::Waive)
+    } else if text == b"skip".as_slice() {
+        Some(RowKind::Skip)
+    } else if text == b"session".as_slice() {
+        Some(RowKind::Session)
+    } else if text == b"desk".as_slice() {
+        Some(RowKind::Desk)
+    } else {
+        None
+    }
+}
+
+impl RowKind {
+    /// The stage of a text in which rows of this kind stand.
+    pub(crate) fn stage(self) -> u8
+        ensures { result ≡ spec.stage_of self }
+    {
+        match self {
+            RowKind::Segment | RowKind::Point | RowKind::Pool => 1,
+            RowKind::Contract => 2,
+            RowKind::Question | RowKind::Day => 3,
+            RowKind::Capacity | RowKind::Carry => 4,
+            RowKind::Line => 5,
+            RowKind::Sched => 6,
+            RowKind::Price => 7,
+            RowKind::Inside => 8,
+            _ => 9,
+        }
+    }
+}
+
+impl Form {
+    /// Whether the command takes rows of this kind.
+    pub(crate) fn takes(self, kind: RowKind) -> bool
+        ensures { result ≡ spec.takes self kind }
+    {
+        match self {
+            Form::CheckAllowed => matches!(
+                kind,
+                RowKind::Segment
+                    | RowKind::Point
+                    | RowKind::Pool
+                    | RowKind::Question
+                    | RowKind::Capacity
+                    | RowKind::Line
+                    | RowKind::Sched
+            ),
+        }
+    }
+}

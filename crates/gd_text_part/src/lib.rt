@@ -1,0 +1,26 @@
+//! Texts as rows: the bytes of a reader to typed rows, or to the first fault; and how bytes are written.
+#![tactic(auto)]
+
+mod body;
+mod fault;
+mod fields;
+mod input;
+mod kind;
+mod number;
+mod order;
+mod output;
+mod read;
+mod records;
+mod row;
+
+pub use fault::{Cause, RowFault, TextFault};
+pub use input::{MAX_BYTES, MAX_READS};
+pub use kind::{Form, RowKind};
+pub use number::{number_of, signed_of};
+pub use output::{WriteFault, write_bytes};
+pub use read::read_all;
+pub use records::MAX_ROWS;
+pub use row::Row;
+
+#[cfg(test)]
+mod tests;

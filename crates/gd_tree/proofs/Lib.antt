@@ -1,0 +1,10 @@
+pub mod Walks
+pub mod Grown
+pub mod Steps
+pub mod Fields
+pub mod Levels
+pub mod Counts
+pub mod Adds
+pub mod Agree
+pub mod Along
+mod Rows

@@ -1,0 +1,5 @@
+use Rattle.gd_tree.proofs.Along.{route_few}
+use Rattle.gd_tree.proofs.routes_are_short.Goals as goal
+
+pub returns : goal.returns
+returns c = route_few

@@ -1,0 +1,5 @@
+use Rattle.gd_tree.proofs.Along.{routes}
+use Rattle.gd_tree.proofs.routes_are_walks.Goals as goal
+
+pub returns : goal.returns
+returns c = routes

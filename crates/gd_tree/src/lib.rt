@@ -1,0 +1,234 @@
+//! The tree of a pipeline's segments, by numbers: segment k joins place k + 1 to an earlier one.
+#![tactic(auto)]
+
+ghost use Rattle.std.specs.Prelude.{◌≡◌, ℕ, ◌+◌, ◌<◌, ◌≤◌, ◌++◌, ◌∷◌, [], List, length, map, get_or, IfOk, MatchOption, MatchResult, IsTrue, ◌↔◌, pos, ◌+ℤ◌, ◌<ℤ◌, ◌≤ℤ◌, set, ◌*◌, ◌^◌, ◌==◌, if◌then◌else◌, true};
+ghost use Rattle.std.specs.List.{count_by};
+ghost use Rattle.gd_rules.specs.Question.{Element};
+ghost use Rattle.gd_rules.specs.Question.Element.{Segment as segment, Pool as pool};
+ghost use Rattle.gd_rules.specs.Tree.{IsTree, IsRoute};
+ghost use Rattle.gd_tree.specs.Grown.{Joins, IsGrown, route_of, has_route};
+ghost use Rattle.gd_tree.specs.Steps.{IsStep};
+
+use gd_units::Dth;
+use std::alloc::{AllocError, Global};
+use std::marker::Model;
+
+/// What grew place by place is a tree: any two places are joined by exactly one walk that repeats none.
+pub fn grown_is_tree()
+    ensures { (n : ℕ) (elements : List Element) → IsGrown n elements → IsTree (n + 1) elements }
+{}
+
+/// There is a route exactly where the walk between the two places goes along each segment's direction, and it is that walk's.
+pub fn routes_are_walks()
+    ensures { (elements : List Element) (n from to : ℕ) → IsGrown n elements → from ≤ n → to ≤ n
+        → (has_route elements n from to ≡ true → IsRoute elements from (route_of elements n from to) to)
+        × ((route : List ℕ) → IsRoute elements from route to → (has_route elements n from to ≡ true) × (route ≡ route_of elements n from to)) }
+{}
+
+/// A route has at most as many segments as there are.
+pub fn routes_are_short()
+    ensures { (elements : List Element) (n from to : ℕ) → length (route_of elements n from to) ≤ n }
+{}
+
+/// A one-way segment between two places, with its capacity in dekatherms a gas day.
+#[derive(Clone, Copy, Debug, Drop)]
+pub struct Segment {
+    pub from: u32,
+    pub to: u32,
+    pub capacity: Dth,
+}
+
+/// The next segment on the way between two places, and the places that are left between.
+#[derive(Clone, Copy, Debug, Drop)]
+pub struct Step {
+    pub segment: u32,
+    pub along: bool,
+    pub from: u32,
+    pub to: u32,
+}
+
+/// Adds to one of several sums.
+fn add_at(sums: &mut [i64], at: usize, amount: i64)
+    requires known { at < length sums.old }
+    requires low { pos 0 ≤ℤ amount }
+    requires room { (get_or sums.old at (pos 0) +ℤ amount) <ℤ pos (2 ^ 63) }
+    ensures { sums.new ≡ set sums.old at (get_or sums.old at (pos 0) +ℤ amount) }
+{
+    sums[at] += amount;
+}
+
+/// Segments that grew place by place.
+#[derive(Drop)]
+pub struct Tree {
+    segments: Vec<Segment>,
+}
+
+impl Model for Tree {
+    ghost use Rattle.std.specs.Prelude.{List};
+    ghost use Rattle.gd_rules.specs.Question.{Element};
+
+    ghost Value = { List Element };
+
+    ghost use Rattle.gd_tree.specs.View.{segments_of, IsTreeOfSegments};
+
+    ghost view = { segments_of };
+
+    ghost invariant = { IsTreeOfSegments };
+}
+
+impl Tree {
+    pub fn new(alloc: Global) -> Tree
+        ensures { result ≡ [] }
+    {
+        Tree {
+            segments: Vec::new(alloc),
+        }
+    }
+
+    pub fn len(&self) -> usize
+        ensures is { result ≡ length self.now }
+        ensures grown { IsGrown (length self.now) self.now }
+    {
+        self.segments.len()
+    }
+
+    pub fn segment(&self, at: usize) -> Segment
+        requires { at < length self.now }
+        ensures is { get_or self.now at (pool 0) ≡ segment result.from result.to result.capacity }
+        ensures joins { Joins at (segment result.from result.to result.capacity) }
+    {
+        self.segments[at]
+    }
+
+    /// Joins a new place to an earlier one.
+    pub fn push(&mut self, next: Segment) -> Result<(), AllocError>
+        requires { Joins (length self.old) (segment next.from next.to next.capacity) }
+        ensures { MatchResult result (λ _. self.new ≡ self.old ++ segment next.from next.to next.capacity ∷ []) (λ _. self.new ≡ self.old) }
+    {
+        self.segments.push(next)?;
+        Ok(())
+    }
+
+    /// The next segment on the way.
+    pub fn step(&self, from: u32, to: u32) -> Option<Step>
+        requires from_known { from ≤ length self.now }
+        requires to_known { to ≤ length self.now }
+        ensures next { MatchOption result (from ≡ to) (IsStep self.now from to) }
+        ensures grown { IsGrown (length self.now) self.now }
+    {
+        let segments = &self.segments;
+        if from == to {
+            return None;
+        }
+        if from > to {
+            let at = from - 1;
+            let segment = segments[at as usize];
+            let along = segment.from == from;
+            let next = if along { segment.to } else { segment.from };
+            Some(Step {
+                segment: at,
+                along,
+                from: next,
+                to,
+            })
+        } else {
+            let at = to - 1;
+            let segment = segments[at as usize];
+            let along = segment.to == to;
+            let next = if along { segment.from } else { segment.to };
+            Some(Step {
+                segment: at,
+                along,
+                from,
+                to: next,
+            })
+        }
+    }
+
+    /// Whether there is a route from one place to another: each segment on the way is passed along its direction.
+    pub fn runs(&self, from: u32, to: u32) -> bool
+        requires from_known { from ≤ length self.now }
+        requires to_known { to ≤ length self.now }
+        ensures is { result ≡ has_route self.now (length self.now) from to }
+        ensures exists { IsTrue result ↔ ((route : List ℕ) × IsRoute self.now from route to) }
+    {
+        let mut a = from;
+        let mut b = to;
+        while let Some(step) = self.step(a, b) {
+            if !step.along {
+                return false;
+            }
+            a = step.from;
+            b = step.to;
+        }
+        true
+    }
+
+    /// The segments from one place to another, each passed along its direction, or none where one would be passed against it.
+    pub fn route(&self, alloc: Global, from: u32, to: u32) -> Result<Option<Vec<u32>>, AllocError>
+        requires from_known { from ≤ length self.now }
+        requires to_known { to ≤ length self.now }
+        ensures { IfOk result (λ found. MatchOption found ((other : List ℕ) → IsRoute self.now from other to → ⊥) (λ r. (r.items ≡ route_of self.now (length self.now) from to) × IsRoute self.now from r.items to × ((other : List ℕ) → IsRoute self.now from other to → other ≡ r.items))) }
+    {
+        let mut front = Vec::new(alloc);
+        let mut back = Vec::new(alloc);
+        let mut a = from;
+        let mut b = to;
+        while let Some(step) = self.step(a, b) {
+            if !step.along {
+                return Ok(None);
+            }
+            if step.to == b {
+                front.push(step.segment)?;
+            } else {
+                back.push(step.segment)?;
+            }
+            a = step.from;
+            b = step.to;
+        }
+        while let Some(segment) = back.pop() {
+            front.push(segment)?;
+        }
+        Ok(Some(front))
+    }
+
+    /// How often a segment stands on the way: once or never.
+    pub fn passes(&self, from: u32, to: u32, segment: u32) -> bool
+        requires from_known { from ≤ length self.now }
+        requires to_known { to ≤ length self.now }
+        ensures { (if result then 1 else 0) ≡ count_by (λ k. k == segment) (route_of self.now (length self.now) from to) }
+    {
+        let mut a = from;
+        let mut b = to;
+        while let Some(step) = self.step(a, b) {
+            if step.segment == segment {
+                return true;
+            }
+            a = step.from;
+            b = step.to;
+        }
+        false
+    }
+
+    /// Adds an amount at each segment on the way.
+    pub fn add_along(&self, from: u32, to: u32, amount: Dth, sums: &mut [i64])
+        requires from_known { from ≤ length self.now }
+        requires to_known { to ≤ length self.now }
+        requires long { length self.now ≤ length sums.old }
+        requires room { (e : ℕ) → (get_or sums.old e (pos 0) +ℤ pos amount) <ℤ pos (2 ^ 63) }
+        ensures sized { length sums.new ≡ length sums.old }
+        ensures added { (e : ℕ) → get_or sums.new e (pos 0) ≡ get_or sums.old e (pos 0) +ℤ pos (count_by (λ k. k == e) (route_of self.now (length self.now) from to) * amount) }
+    {
+        let signed = amount.get() as i64;
+        let mut a = from;
+        let mut b = to;
+        while let Some(step) = self.step(a, b) {
+            add_at(sums, step.segment as usize, signed);
+            a = step.from;
+            b = step.to;
+        }
+    }
+}
+
+#[cfg(test)]
+mod tests;
