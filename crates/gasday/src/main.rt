@@ -2,9 +2,8 @@
 #![tactic(auto)]
 
 use gasday_part::{UsageFault, command_of, run};
-use std::env;
-use std::io;
 use std::process::ExitCode;
+use std::{env, io};
 
 /// Reads the words of the command line, and runs the command that they name.
 ///

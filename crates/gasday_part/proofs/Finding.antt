@@ -23,5 +23,5 @@ finds command.CheckAllowed (Some text) rows asked (Ok a) read built found =
     inl (
       read.0,
       subst (λ (o : Result (List Row) RowFault). ChecksRows o (answer_seen a)) (sym read.1)
-        (subst (λ (o : Result (Posed × List ℕ) TextFault). ChecksAsked o (answer_seen a)) (sym built) found),
+          (subst (λ (o : Result (Posed × List ℕ) TextFault). ChecksAsked o (answer_seen a)) (sym built) found),
     )

@@ -9,8 +9,6 @@ use Rattle.gd_text.specs.declared.reply.Reply.{Reply}
 use Rattle.gd_text.specs.Lines.{line_of, lines_of}
 use Rattle.std.proofs.Common.{Some, None, IfSome}
 use Rattle.std.proofs.KnownBytes.{Appends-nil}
-
-
 use Rattle.gd_text_part.specs.declared.fault.TextFault.TheVariants as fault
 use Rattle.gasday_part.specs.declared.command.Command.{Command}
 use Rattle.gasday_part.specs.declared.command.Command.TheVariants as command
@@ -41,7 +39,7 @@ no_memory_after old mid new answer i n le before now =
     let front = lines_of (take i answer.replies) in
     let told = lines_of (no_memory ∷ []) in
     let bytes : take (length front + n) (lines_of (take i answer.replies ++ no_memory ∷ [])) ≡ front ++ take n told =
-        ap (take (length front + n)) (lines-append (take i answer.replies) (no_memory ∷ []) ∙ ap (λ t. front ++ t) (sym (append-nil told))) ∙ part front told [] n le in
+    ap (take (length front + n)) (lines-append (take i answer.replies) (no_memory ∷ []) ∙ ap (λ t. front ++ t) (sym (append-nil told))) ∙ part front told [] n le in
     inr (i, length front + n, rw bytes (Appends-trans old mid new front (take n told) before now), refl)
 
 -- the writer failed in the reply at i
@@ -51,7 +49,7 @@ stops_in old mid new answer i n r lt is le before now =
     let front = lines_of (take i answer.replies) in
     let more = lines_of (no_memory ∷ []) in
     let bytes : take (length front + n) (lines_of (take (i + 1) answer.replies ++ no_memory ∷ [])) ≡ front ++ take n (line_of r) =
-        ap (take (length front + n)) (lines-append (take (i + 1) answer.replies) (no_memory ∷ []) ∙ ap (λ t. t ++ more) (lines_more answer.replies i r lt is) ∙ append_assoc front (line_of r) more) ∙ part front (line_of r) more n le in
+    ap (take (length front + n)) (lines-append (take (i + 1) answer.replies) (no_memory ∷ []) ∙ ap (λ t. t ++ more) (lines_more answer.replies i r lt is) ∙ append_assoc front (line_of r) more) ∙ part front (line_of r) more n le in
     inr (i + 1, length front + n, rw bytes (Appends-trans old mid new front (take n (line_of r)) before now), refl)
 
 pub is_done : (old new : Option (List ℕ)) (answer : Told) (i : ℕ) → length answer.replies ≤ i → Appends old new (lines_of (take i answer.replies)) → Written old new answer.status answer

@@ -41,12 +41,7 @@ fn tell_no_memory<W: Write>(writer: &mut W) -> u8
 ///
 /// Where memory runs out, the first rows of the answer are followed by `fault,0,OutOfMemory` or by nothing. After a
 /// failed write nothing more is written.
-pub fn run<R: Read, W: Write>(
-    alloc: Global,
-    command: Command,
-    reader: &mut R,
-    writer: &mut W,
-) -> u8
+pub fn run<R: Read, W: Write>(alloc: Global, command: Command, reader: &mut R, writer: &mut W) -> u8
     ensures { IfSome (R.remaining reader.old) (λ text. Answers command text (W.contents writer.old) (W.contents writer.new) result) }
 {
     match answer_to(alloc, command, reader) {

@@ -19,4 +19,6 @@ pub use fault::UsageFault;
 pub use words::command_of;
 
 #[cfg(test)]
+mod run_tests;
+#[cfg(test)]
 mod tests;

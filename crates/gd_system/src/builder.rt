@@ -77,6 +77,7 @@ impl Model for SystemBuilder {
 }
 
 impl SystemBuilder {
+    /// A builder with nothing in it. It needs no memory.
     pub fn new(alloc: Global) -> SystemBuilder
         ensures { result ≡ empty }
     {

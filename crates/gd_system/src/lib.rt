@@ -25,6 +25,7 @@ pub enum BuildFault {
     TooMany,
     /// There is no segment.
     NoSegment,
+    /// Memory was refused.
     OutOfMemory,
 }
 
@@ -39,6 +40,7 @@ pub enum RouteFault {
     SameEnd,
     /// A segment would be passed against its direction.
     NoRoute,
+    /// Memory was refused.
     OutOfMemory,
 }
 

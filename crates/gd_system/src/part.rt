@@ -65,18 +65,21 @@ impl Part {
         }
     }
 
+    /// Whether it is a segment.
     pub fn is_segment(&self) -> bool
         ensures { result ≡ spec.is_segment (element_of self.now) }
     {
         matches!(*self, Part::Segment(..))
     }
 
+    /// Whether it is a receipt point.
     pub fn is_receipt(&self) -> bool
         ensures { result ≡ spec.is_receipt (element_of self.now) }
     {
         matches!(*self, Part::Receipt(..))
     }
 
+    /// Whether it is a delivery point.
     pub fn is_delivery(&self) -> bool
         ensures { result ≡ spec.is_delivery (element_of self.now) }
     {

@@ -54,30 +54,35 @@ impl System {
         let _ = &self.tree;
     }
 
+    /// The number of places: one more than segments.
     pub fn place_count(&self) -> usize
         ensures { result ≡ length self.now.places }
     {
         self.places.len()
     }
 
+    /// The number of segments.
     pub fn segment_count(&self) -> usize
         ensures { result ≡ length self.now.tree }
     {
         self.tree.len()
     }
 
+    /// The number of points.
     pub fn point_count(&self) -> usize
         ensures { result ≡ length self.now.points }
     {
         self.points.len()
     }
 
+    /// The number of pools.
     pub fn pool_count(&self) -> usize
         ensures { result ≡ length self.now.pools }
     {
         self.pools.len()
     }
 
+    /// The number of segments, points and pools.
     pub fn element_count(&self) -> usize
         ensures { result ≡ length (elements_of self.now) }
     {
@@ -91,6 +96,7 @@ impl System {
         &self.tree
     }
 
+    // What is kept of the element.
     fn row(&self, element: Element) -> Row
         requires { element.0 < length (elements_of self.now) }
         ensures { IsRow self.now element.0 result }

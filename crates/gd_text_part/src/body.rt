@@ -5,7 +5,9 @@ ghost use Rattle.csv.specs.Records.{fields_of};
 ghost use Rattle.gd_text_part.specs.Rows as spec;
 
 use crate::fault::Cause;
-use crate::fields::{cycle_at, empty_from, name_at, number_at, point_kind_at, quantity_at, round_at};
+use crate::fields::{
+    cycle_at, empty_from, name_at, number_at, point_kind_at, quantity_at, round_at,
+};
 use crate::row::Row;
 use csv::ByteRecord;
 
