@@ -9,3 +9,6 @@ pub use builder::QuestionBuilder;
 pub use fault::{CapacityFault, LineFault};
 pub use gd_system::{Element, Part, PlaceId};
 pub use question::Question;
+
+#[cfg(test)]
+mod tests;
