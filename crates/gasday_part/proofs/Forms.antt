@@ -7,7 +7,7 @@ use Rattle.clap.specs.declared.error.kind.ErrorKind.TheVariants as kind
 use Rattle.gasday_part.specs.declared.command.Command.{Command}
 use Rattle.gasday_part.specs.declared.fault.UsageFault.{UsageFault}
 use Rattle.gasday_part.specs.declared.fault.UsageFault.TheVariants.{Help, Usage, OutOfMemory}
-use Rattle.gasday_part.specs.Meaning.{Meaning, CheckAllowed, gasday, meaning_of, arguments}
+use Rattle.gasday_part.specs.Meaning.{Meaning, CheckAllowed, Calendar, gasday, meaning_of, arguments}
 use Rattle.gasday_part.specs.Seen.{seen}
 use Rattle.gasday_part.specs.Told.{IsCommand, IsHelp, IsTold}
 
@@ -32,6 +32,18 @@ check_allowed words h = simp h
 pub check_allowed_is : (words : List Text) → arguments words ≡ codes "check" ∷ codes "allowed" ∷ [] → meaning_of words ≡ Some CheckAllowed
 unfolding clap_on_literals
 check_allowed_is words h = simp h
+
+pub calendar : (words : List Text) → arguments words ≡ codes "calendar" ∷ [] → takes gasday words ≡ true
+unfolding clap_on_literals
+calendar words h = simp h
+
+pub calendar_is : (words : List Text) → arguments words ≡ codes "calendar" ∷ [] → meaning_of words ≡ Some Calendar
+unfolding clap_on_literals
+calendar_is words h = simp h
+
+pub help_of_calendar : (words : List Text) → arguments words ≡ codes "calendar" ∷ codes "--help" ∷ [] → fault_of gasday words ≡ kind.DisplayHelp ∷ []
+unfolding clap_on_literals
+help_of_calendar words h = simp h
 
 pub help : (words : List Text) → arguments words ≡ codes "--help" ∷ [] → fault_of gasday words ≡ kind.DisplayHelp ∷ []
 unfolding clap_on_literals

@@ -1,5 +1,5 @@
 -- Writing replies one after the other.
-use Rattle.std.proofs.Common.{◌≡◌, ℕ, ◌+◌, ◌<◌, ◌≤◌, List, [], ◌∷◌, ◌++◌, Option, take, length, get_or, refl, sym, ap, ◌∙◌, append_assoc, arith, inl, inr}
+use Rattle.std.proofs.Common.{◌≡◌, ℕ, ◌+◌, ◌<◌, ◌≤◌, List, [], ◌∷◌, ◌++◌, Option, take, length, get_or, refl, sym, ap, ◌∙◌, append_assoc, inl, inr}
 use Rattle.std.specs.Io.KnownBytes.{Appends}
 use Rattle.std.proofs.KnownBytes.{Appends-trans}
 use Rattle.std.proofs.lemmas.Grind.{flat_map-append}
@@ -11,8 +11,7 @@ use Rattle.std.proofs.Common.{Some, None, IfSome}
 use Rattle.std.proofs.KnownBytes.{Appends-nil}
 use Rattle.gd_text_part.specs.declared.fault.TextFault.TheVariants as fault
 use Rattle.gasday_part.specs.declared.command.Command.{Command}
-use Rattle.gasday_part.specs.declared.command.Command.TheVariants as command
-use Rattle.gasday_part.specs.Answers.{Told, MayAnswer, fault_answer}
+use Rattle.gasday_part.specs.Answers.{Told, fault_answer}
 use Rattle.gasday_part.specs.Written.{Answers, Written, no_memory}
 
 lines-append : (a b : List Reply) → lines_of (a ++ b) ≡ lines_of a ++ lines_of b
@@ -57,7 +56,7 @@ is_done old new answer i le told = inl (rw (take_all i answer.replies le) at tol
 
 -- memory ran out before there was any reply
 pub told_none : (k : Command) (known old new : Option (List ℕ)) (n : ℕ) → n ≤ length (lines_of (no_memory ∷ [])) → Appends old new (take n (lines_of (no_memory ∷ []))) → IfSome known (λ text. Answers k text old new 2)
-told_none command.CheckAllowed None old new n le now = tt
-told_none command.CheckAllowed (Some text) old new n le now =
+told_none k None old new n le now = tt
+told_none k (Some text) old new n le now =
     let a = fault_answer fault.ReadFailed in
     (a, inr (inr refl), no_memory_after old old new a 0 n le (Appends-nil old) now)

@@ -1,5 +1,11 @@
 -- What a command answers to a text.
-use Rattle.std.specs.Prelude.{◌≡◌, ◌⊎◌, ℕ, List, [], ◌∷◌, Result, Ok, Err}
+use Rattle.std.specs.Prelude.{◌≡◌, ◌⊎◌, ℕ, ◌+◌, pos, length, Option, Some, None, List, [], ◌∷◌, Result, Ok, Err}
+use Rattle.std.specs.Option.{IsSome}
+use Rattle.jiff.specs.Words.{IsYmd, read_whole}
+use Rattle.jiff.specs.Placed.{IsPosixZone}
+use Rattle.jiff.specs.Types.{Date, TimeZone}
+use Rattle.gd_calendar.specs.Range.{IsGasDay}
+use Rattle.gd_calendar.specs.Zone.{IsCalendarOf, IsBadZone}
 use Rattle.gd_rules.specs.Schedule.{IsAllowed}
 use Rattle.gd_question.specs.Posed.{Posed}
 use Rattle.gd_schedule.specs.Exact.{Explains}
@@ -9,7 +15,11 @@ use Rattle.gd_text_part.specs.declared.row.Row.{Row}
 use Rattle.gd_text_part.specs.declared.fault.RowFault.{RowFault}
 use Rattle.gd_text_part.specs.declared.fault.TextFault.{TextFault}
 use Rattle.gd_text_part.specs.declared.fault.TextFault.TheVariants as fault
+use Rattle.gd_text_part.specs.Dates.{YearMonthDay}
+use Rattle.gd_text_part.specs.declared.fault.Cause.TheVariants as cause
+use Rattle.gd_text_part.specs.declared.kind.Form.{Form}
 use Rattle.gd_text_part.specs.declared.kind.Form.TheVariants as form
+use Rattle.gd_text.specs.Calendars.{day_of, calendar_rows}
 use Rattle.gd_text.specs.Values.{asked_of}
 use Rattle.gd_text.specs.Replies.{allowed_rows, Tells}
 use Rattle.gd_text.specs.declared.reply.Reply.{Reply}
@@ -41,14 +51,50 @@ abbrev pub ChecksAsked : Result (Posed × List ℕ) TextFault → Told → Type 
 ChecksAsked (Ok asked) a = ChecksAllowed asked.0 asked.1 a
 ChecksAsked (Err f) a = a ≡ fault_answer f
 
--- the rows are asked, or the first fault is told
-abbrev pub ChecksRows : Result (List Row) RowFault → Told → Type 0
-ChecksRows (Ok rows) a = ChecksAsked (asked_of rows) a
-ChecksRows (Err f) a = a ≡ fault_answer (fault.Row f.row f.cause)
+-- a gas day has no calendar, which is told with status 1
+abbrev pub refused : Reply → Told
+refused r = record { replies = r ∷ []; status = 1 }
+
+-- The zone's calendar of a gas day is told, with status 0; or there is none.
+abbrev pub TellsZone : TimeZone → Date → Told → Type 0
+TellsZone zone day a =
+    ((moments : List ℕ) × IsCalendarOf zone day moments × (a ≡ record { replies = calendar_rows moments; status = 0 }))
+    ⊎ (IsBadZone zone day × (a ≡ refused reply.BadZone))
+
+-- The date is none of the gas days, or the text is no POSIX rule, or it is the rule of a zone.
+abbrev pub TellsDay : Date → List ℕ → Told → Type 0
+TellsDay day text a =
+    (¬ (IsGasDay day) × (a ≡ refused reply.OutOfRange))
+    ⊎ (IsGasDay day × ¬ (IsSome (read_whole text)) × (a ≡ refused reply.BadZone))
+    ⊎ (IsGasDay day × ((zone : TimeZone) × IsPosixZone text zone × TellsZone zone day a))
+
+-- the calendar of the day of this date is told, where it has one
+abbrev pub TellsDate : YearMonthDay → List ℕ → Told → Type 0
+TellsDate date text a = (day : Date) × IsYmd (pos date.year) (pos date.month) (pos date.day) day × TellsDay day text a
+
+-- the calendar of a text's gas day is told; a text without one is told at the row past its last
+abbrev pub TellsCalendar : ℕ → Option (YearMonthDay × List ℕ) → Told → Type 0
+TellsCalendar end (Some asked) a = TellsDate asked.0 asked.1 a
+TellsCalendar end None a = a ≡ fault_answer (fault.Row end cause.Missing)
+
+-- how a command's text is read
+abbrev pub form_of : Command → Form
+form_of command.CheckAllowed = form.CheckAllowed
+form_of command.Calendar = form.Calendar
+
+-- what a command answers to the rows of its text
+abbrev pub AnswersRows : Command → List Row → Told → Type 0
+AnswersRows command.CheckAllowed rows a = ChecksAsked (asked_of rows) a
+AnswersRows command.Calendar rows a = TellsCalendar (length rows + 1) (day_of rows) a
+
+-- the rows are answered, or the first fault is told
+abbrev pub AnswersText : Command → Result (List Row) RowFault → Told → Type 0
+AnswersText k (Ok rows) a = AnswersRows k rows a
+AnswersText k (Err f) a = a ≡ fault_answer (fault.Row f.row f.cause)
 
 -- What a command may answer to a text: what its rows say, where it is within its limits; that it is too long, where it is; or that it could not be read.
 abbrev pub MayAnswer : Command → List ℕ → Told → Type 0
-MayAnswer command.CheckAllowed text a =
-    (IsWithin text × ChecksRows (rows_of form.CheckAllowed text) a)
+MayAnswer k text a =
+    (IsWithin text × AnswersText k (rows_of (form_of k) text) a)
     ⊎ ((HasManyBytes text ⊎ HasManyRows text) × (a ≡ fault_answer fault.TooLong))
     ⊎ (a ≡ fault_answer fault.ReadFailed)

@@ -13,15 +13,22 @@ what = record (new_rule (codes "what")) { value_names = 1; required = true }
 abbrev pub check : App
 check = with_rule (new_app (codes "check")) what
 
+abbrev pub calendar : App
+calendar = new_app (codes "calendar")
+
+abbrev pub bare : App
+bare = new_app (codes "gasday")
+
 -- the program's command line
 abbrev pub gasday : App
-gasday = with_subcommand (new_app (codes "gasday")) check.top
+gasday = with_subcommand (with_subcommand bare check.top) calendar.top
 
 -- ---- the meaning of words
 
 -- what the program is to do
 pub data Meaning : Type 0 where
   CheckAllowed : Meaning
+  Calendar : Meaning
 
 -- the check that the word after `check` names
 abbrev pub check_named : Option Text → Option Meaning
@@ -30,7 +37,10 @@ check_named (Some word) = if bytes_eq word (codes "allowed") then Some CheckAllo
 
 -- the command of a subcommand's name and of what it was given
 abbrev pub command_from : Text → Option Text → Option Meaning
-command_from name what = if bytes_eq name (codes "check") then check_named what else None
+command_from name what =
+    if bytes_eq name (codes "check") then check_named what
+    else if bytes_eq name (codes "calendar") then Some Calendar
+    else None
 
 -- the command of the subcommand that was met: with none it is `check allowed`
 abbrev pub command_in : Option (Text × List Row) → Option Meaning

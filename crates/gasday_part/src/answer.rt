@@ -1,13 +1,14 @@
 //! What a command answers to a text.
 
-ghost use Rattle.std.specs.Prelude.{◌≡◌, ◌≢◌, [], ◌∷◌, IfOk, IfSome};
+ghost use Rattle.std.specs.Prelude.{◌≡◌, [], ◌∷◌, IfOk, IfSome};
 ghost use Rattle.gasday_part.specs.Answers as spec;
 ghost use Rattle.gasday_part.specs.AnswerSeen.{answer_seen};
 ghost use Rattle.gd_text_part.specs.declared.fault.TextFault.TheVariants.{OutOfMemory};
 
 use crate::command::Command;
-use gd_text::{Asked, InputFault, Reply, allowed_replies, asked_of, broken_reply};
-use gd_text_part::{Form, TextFault, read_all};
+use crate::day::tell_day;
+use gd_text::{Asked, InputFault, Reply, allowed_replies, asked_of, broken_reply, day_of};
+use gd_text_part::{Cause, Row, TextFault, read_all};
 use std::alloc::{AllocError, Global};
 use std::io::Read;
 
@@ -18,8 +19,8 @@ pub(crate) struct Answer {
     pub(crate) status: u8,
 }
 
-// An answer of one row.
-fn of_one(alloc: Global, reply: Reply, status: u8) -> Result<Answer, AllocError>
+/// An answer of one row.
+pub(crate) fn of_one(alloc: Global, reply: Reply, status: u8) -> Result<Answer, AllocError>
     ensures { IfOk result (λ a. answer_seen a ≡ record { replies = reply ∷ []; status = status }) }
 {
     let mut replies = Vec::new(alloc);
@@ -40,6 +41,16 @@ fn of_fault(alloc: Global, fault: TextFault) -> Result<Answer, AllocError>
     of_one(alloc, reply, 2)
 }
 
+// The head of a text is missing, which is told at one row past the last.
+fn missing(row: u64) -> TextFault
+    ensures { result ≡ TextFault.Row row Cause.Missing }
+{
+    TextFault::Row {
+        row,
+        cause: Cause::Missing,
+    }
+}
+
 // Whether the schedule is allowed, with its class totals, or what is first wrong with it.
 fn check_allowed(alloc: Global, asked: &Asked) -> Result<Answer, AllocError>
     ensures { IfOk result (λ a. spec.ChecksAllowed asked.now.question asked.now.schedule (answer_seen a)) }
@@ -56,6 +67,23 @@ fn check_allowed(alloc: Global, asked: &Asked) -> Result<Answer, AllocError>
     }
 }
 
+// What a command answers to the rows of its text.
+fn answer_to_rows(alloc: Global, command: Command, rows: &[Row]) -> Result<Answer, AllocError>
+    ensures { IfOk result (λ a. spec.AnswersRows command rows.now (answer_seen a)) }
+{
+    match command {
+        Command::CheckAllowed => match asked_of(alloc, rows) {
+            Ok(asked) => check_allowed(alloc, &asked),
+            Err(TextFault::OutOfMemory) => Err(AllocError),
+            Err(fault) => of_fault(alloc, fault),
+        },
+        Command::Calendar => match day_of(rows) {
+            Some(asked) => tell_day(alloc, asked.0, asked.1),
+            None => of_fault(alloc, missing(rows.len() as u64 + 1)),
+        },
+    }
+}
+
 /// What a command answers to all that a reader has left.
 pub(crate) fn answer_to<R: Read>(
     alloc: Global,
@@ -64,14 +92,8 @@ pub(crate) fn answer_to<R: Read>(
 ) -> Result<Answer, AllocError>
     ensures { IfSome (R.remaining reader.old) (λ text. IfOk result (λ a. spec.MayAnswer command text (answer_seen a))) }
 {
-    let Command::CheckAllowed = command;
-    let rows = match read_all(alloc, Form::CheckAllowed, reader) {
-        Ok(rows) => rows,
-        Err(TextFault::OutOfMemory) => return Err(AllocError),
-        Err(fault) => return of_fault(alloc, fault),
-    };
-    match asked_of(alloc, rows.as_slice()) {
-        Ok(asked) => check_allowed(alloc, &asked),
+    match read_all(alloc, command.form(), reader) {
+        Ok(rows) => answer_to_rows(alloc, command, rows.as_slice()),
         Err(TextFault::OutOfMemory) => Err(AllocError),
         Err(fault) => of_fault(alloc, fault),
     }

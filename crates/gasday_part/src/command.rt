@@ -2,16 +2,32 @@
 
 ghost use Rattle.std.specs.Prelude.{◌≡◌, option_map};
 ghost use Rattle.clap.specs.Words.{subcommand_rows_of};
+ghost use Rattle.gasday_part.specs.Answers.{form_of};
 ghost use Rattle.gasday_part.specs.Meaning as spec;
 ghost use Rattle.gasday_part.specs.Seen.{seen};
 
 use clap::ArgMatches;
+use gd_text_part::Form;
 
 /// What the program is to do.
 #[derive(Clone, Copy, Debug, PartialEq, Eq)]
 pub enum Command {
     /// Tells whether the schedule behind a question is allowed, and its total by class.
     CheckAllowed,
+    /// Tells the moments of a gas day's five cycles, and its hours.
+    Calendar,
+}
+
+impl Command {
+    /// How the command's text is read.
+    pub(crate) fn form(self) -> Form
+        ensures { result ≡ form_of self }
+    {
+        match self {
+            Command::CheckAllowed => Form::CheckAllowed,
+            Command::Calendar => Form::Calendar,
+        }
+    }
 }
 
 // The check that the word after `check` names.
@@ -31,6 +47,7 @@ fn command_from(name: &str, what: Option<&str>) -> Option<Command>
 {
     match name {
         "check" => check_named(what),
+        "calendar" => Some(Command::Calendar),
         _ => None,
     }
 }

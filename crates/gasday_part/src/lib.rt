@@ -8,6 +8,7 @@
 
 mod answer;
 mod command;
+mod day;
 mod engine;
 mod fault;
 mod line;

@@ -20,7 +20,7 @@ Example:
 
 Exit status:
   0  the answer is good
-  1  the answer is broken
+  1  a schedule is broken, or a gas day has no calendar
   2  a fault of the command line, the input, the output or the memory";
 
 const ABOUT_CHECK: &str =
@@ -48,12 +48,45 @@ fn check<'a>(alloc: Global) -> Result<CommandLine<'a>, AllocError>
         .arg(what)
 }
 
-/// The command line of the program, with the texts of its help.
-pub(crate) fn gasday<'a>(alloc: Global) -> Result<CommandLine<'a>, AllocError>
-    ensures { IfOk result (λ c. app_of c ≡ spec.gasday) }
+const ABOUT_CALENDAR: &str = "Tells the moments of a gas day's five cycles, and its hours";
+
+const AFTER_HELP_OF_CALENDAR: &str =
+    "It reads one row: day,DATE,ZONE,,,,, with ZONE as a POSIX rule in quotes.
+It prints five rows
+  cycle,NO,LEAVES,RECEIVED,QUICK,CONFIRMED,SCHEDULES,EFFECTIVE
+with each moment in seconds since 1970-01-01T00:00:00Z, and a last row
+  hours,LENGTH,TIMELY,EVENING,INTRADAY1,INTRADAY2,INTRADAY3
+with the hours of the gas day, and how many of them are over where each cycle takes effect.
+
+Example:
+  gasday calendar < examples/gas-day.csv
+
+A moment by the clock of the zone:
+  TZ='CST6CDT,M3.2.0,M11.1.0' date -d @1772910900";
+
+// `calendar`, which takes no words.
+fn calendar<'a>(alloc: Global) -> CommandLine<'a>
+    ensures app { app_of result ≡ spec.calendar }
+    ensures local { (out-Command result).has_globals ≡ false }
+{
+    CommandLine::new(alloc, "calendar")
+        .about(ABOUT_CALENDAR)
+        .after_help(AFTER_HELP_OF_CALENDAR)
+}
+
+// The program's name, before it has commands.
+fn bare<'a>(alloc: Global) -> CommandLine<'a>
+    ensures { app_of result ≡ spec.bare }
 {
     CommandLine::new(alloc, "gasday")
         .about(ABOUT)
         .after_help(AFTER_HELP)
-        .subcommand(check(alloc)?)
+}
+
+/// The command line of the program, with the texts of its help.
+pub(crate) fn gasday<'a>(alloc: Global) -> Result<CommandLine<'a>, AllocError>
+    ensures { IfOk result (λ c. app_of c ≡ spec.gasday) }
+{
+    let with_check = bare(alloc).subcommand(check(alloc)?)?;
+    with_check.subcommand(calendar(alloc))
 }

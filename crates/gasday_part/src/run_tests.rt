@@ -248,3 +248,40 @@ fn a_text_cut_after_any_byte(rt: HostRuntime) -> Result<(), Fail> {
     }
     Ok(())
 }
+
+// A day of the clock's change, and the answers to it and to two days that have no calendar.
+const DAYS: [(&[u8], &[u8], u8); 3] = [
+    (
+        b"day,2026-03-08,\"CST6CDT,M3.2.0,M11.1.0\",,,,,\n",
+        b"cycle,1,1772910000,1772910900,1772911800,1772922600,1772924400,1772978400
+cycle,2,1772928000,1772928900,1772929800,1772937000,1772938800,1772978400
+cycle,3,1772982000,1772982900,1772983800,1772991000,1772992800,1772996400
+cycle,4,1772998200,1772999100,1773000000,1773007200,1773009000,1773010800
+cycle,5,1773014400,1773015300,1773016200,1773023400,1773025200,1773025200
+hours,24,0,0,5,9,13,
+",
+        0,
+    ),
+    (
+        b"day,2016-04-01,nowhere,,,,,\n",
+        b"refused,calendar,1,OutOfRange,,,,\n",
+        1,
+    ),
+    (
+        b"day,2026-03-08,\"CST6CDT,M3.2.0/9,M11.1.0\",,,,,\n",
+        b"refused,calendar,2,BadZone,,,,\n",
+        1,
+    ),
+];
+
+#[test]
+fn calendars(rt: HostRuntime) -> Result<(), Fail> {
+    for (text, wanted, status) in DAYS {
+        let mut reader = text;
+        let mut answer = Vec::new(rt.alloc());
+        let told = run(rt.alloc(), Command::Calendar, &mut reader, &mut answer);
+        assert_eq!(rt; answer.as_slice(), wanted);
+        assert_eq!(rt; told, status);
+    }
+    Ok(())
+}

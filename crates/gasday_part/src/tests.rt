@@ -3,16 +3,20 @@
 use super::*;
 use std::test::Fail;
 
-const LINES: [(&[&str], &str); 19] = [
+const LINES: [(&[&str], &str); 23] = [
     (&[], "allowed"),
     (&["gasday"], "allowed"),
     (&["gasday", "check", "allowed"], "allowed"),
     (&["out/another-name", "check", "allowed"], "allowed"),
+    (&["gasday", "calendar"], "calendar"),
     (&["gasday", "--help"], "help"),
     (&["gasday", "-h"], "help"),
     (&["gasday", "help"], "help"),
     (&["gasday", "help", "check"], "help"),
     (&["gasday", "check", "--help"], "help"),
+    (&["gasday", "calendar", "--help"], "help of calendar"),
+    (&["gasday", "calendar", "2026-03-08"], "usage"),
+    (&["gasday", "check", "calendar"], "usage"),
     (&["gasday", "nonsense"], "usage"),
     (&["gasday", ""], "usage"),
     (&["gasday", "Check", "allowed"], "usage"),
@@ -29,6 +33,7 @@ const LINES: [(&[&str], &str); 19] = [
 fn told(rt: &HostRuntime, words: &[&str]) -> Option<(&'static str, String)> {
     match command_of(rt.alloc(), words) {
         Ok(Command::CheckAllowed) => Some(("allowed", String::new(rt.alloc()))),
+        Ok(Command::Calendar) => Some(("calendar", String::new(rt.alloc()))),
         Err(UsageFault::Help(text)) => Some(("help", text)),
         Err(UsageFault::Usage(text)) => Some(("usage", text)),
         Err(UsageFault::OutOfMemory) => None,
@@ -37,6 +42,9 @@ fn told(rt: &HostRuntime, words: &[&str]) -> Option<(&'static str, String)> {
 
 fn reads_well(answer: &str, text: &str) -> bool {
     match answer {
+        "help of calendar" => {
+            text.contains("\n  gasday calendar < examples/gas-day.csv\n") && text.ends_with('\n')
+        }
         "help" => {
             text.contains("'check allowed'")
                 && text.contains("\n  gasday check allowed < examples/two-lines.csv\n")
@@ -51,8 +59,8 @@ fn reads_well(answer: &str, text: &str) -> bool {
 fn each_line_has_its_answer(rt: HostRuntime) -> Result<(), Fail> {
     for (words, wanted) in LINES {
         let (answer, text) = told(&rt, words).ok_or("out of memory")?;
-        assert_eq!(rt; answer, wanted, "at {words:?}");
-        assert!(rt; reads_well(answer, text.as_str()), "at {words:?}: {text}");
+        assert!(rt; wanted.starts_with(answer), "at {words:?}");
+        assert!(rt; reads_well(wanted, text.as_str()), "at {words:?}: {text}");
     }
     Ok(())
 }
@@ -64,8 +72,8 @@ fn want_of_memory_changes_no_answer(rt: HostRuntime) {
         let first = told(&rt, words);
         let second = told(&rt, words);
         if let (Some(first), Some(second)) = (first, second) {
-            assert_eq!(rt; first.0, wanted, "at {words:?}");
-            assert_eq!(rt; second.0, wanted, "at {words:?}");
+            assert!(rt; wanted.starts_with(first.0), "at {words:?}");
+            assert!(rt; wanted.starts_with(second.0), "at {words:?}");
             assert_eq!(rt; first.1.as_str(), second.1.as_str(), "at {words:?}");
         }
     }

@@ -54,9 +54,13 @@ pub fn command_of<'a, S: AsStr>(alloc: Global, words: &'a [S]) -> Result<Command
         → IsCommand spec.CheckAllowed result }
     ensures check_allowed { spec.arguments (map S.text words.now)
         ≡ codes "check" ∷ codes "allowed" ∷ [] → IsCommand spec.CheckAllowed result }
+    ensures calendar { spec.arguments (map S.text words.now) ≡ codes "calendar" ∷ []
+        → IsCommand spec.Calendar result }
     ensures help { spec.arguments (map S.text words.now) ≡ codes "--help" ∷ [] → IsHelp result }
     ensures help_of_check { spec.arguments (map S.text words.now)
         ≡ codes "check" ∷ codes "--help" ∷ [] → IsHelp result }
+    ensures help_of_calendar { spec.arguments (map S.text words.now)
+        ≡ codes "calendar" ∷ codes "--help" ∷ [] → IsHelp result }
 {
     command_by_clap(alloc, words)
 }

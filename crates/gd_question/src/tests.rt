@@ -1,4 +1,4 @@
-//! A segment S1 of 100 from A to B and S2 of 50 from C to B, with points R1, D1 and D2 and a pool P1.
+//! A segment S1 of 100 from A to B and S2 of 50 from C to B, with points R1, D1 and DC and a pool P1.
 
 use super::*;
 use gd_system::{BuildFault, Kind, RouteFault, System, SystemBuilder};
@@ -32,7 +32,7 @@ fn add_ends(rt: &impl Abort, builder: &mut SystemBuilder) -> Result<(), BuildFau
     for (text, kind, place) in [
         ("R1", Kind::Receipt, "A"),
         ("D1", Kind::Delivery, "B"),
-        ("D2", Kind::Delivery, "C"),
+        ("DC", Kind::Delivery, "C"),
     ] {
         builder.point(
             name(rt, text),
@@ -73,7 +73,7 @@ const REFUSED: [(&str, &str, u8, u64, u64, LineFault); 8] = [
     ("R1", "OP", 9, 20, 10, UNKNOWN),
     ("D1", "R1", 1, 10, 20, WRONG),
     ("P1", "P1", 1, 10, 20, SAME),
-    ("R1", "D2", 9, 20, 10, NONE),
+    ("R1", "DC", 9, 20, 10, NONE),
     ("R1", "D1", 9, 20, 10, LineFault::FloorAboveCeiling),
     ("R1", "D1", 0, 10, 20, LineFault::BadClass),
     ("R1", "D1", 9, 10, 20, LineFault::BadClass),

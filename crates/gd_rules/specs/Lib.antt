@@ -10,3 +10,4 @@ pub mod Words
 pub mod Tariff
 pub mod Units
 pub mod Cut
+pub mod GasDay

@@ -1,4 +1,5 @@
 pub mod Building
 pub mod Values
+pub mod Calendars
 pub mod Lines
 pub mod Replies

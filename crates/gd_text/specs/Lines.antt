@@ -31,6 +31,12 @@ fields_of (reply.AboveCeiling i) = codes "broken" ∷ codes "AboveCeiling" ∷ d
 fields_of (reply.OverCapacity name) = codes "broken" ∷ codes "OverCapacity" ∷ name ∷ []
 fields_of (reply.Unbalanced name) = codes "broken" ∷ codes "Unbalanced" ∷ name ∷ []
 fields_of (reply.Total c q) = codes "total" ∷ decimal c ∷ decimal q ∷ []
+fields_of reply.OutOfRange = codes "refused" ∷ codes "calendar" ∷ codes "1" ∷ codes "OutOfRange" ∷ []
+fields_of reply.BadZone = codes "refused" ∷ codes "calendar" ∷ codes "2" ∷ codes "BadZone" ∷ []
+fields_of (reply.Cycle c leaves received quick confirmed schedules effective) =
+    codes "cycle" ∷ decimal c ∷ decimal leaves ∷ decimal received ∷ decimal quick ∷ decimal confirmed ∷ decimal schedules ∷ decimal effective ∷ []
+fields_of (reply.Hours length timely evening intraday_1 intraday_2 intraday_3) =
+    codes "hours" ∷ decimal length ∷ decimal timely ∷ decimal evening ∷ decimal intraday_1 ∷ decimal intraday_2 ∷ decimal intraday_3 ∷ []
 
 -- the bytes of a reply
 abbrev pub line_of : Reply → List ℕ

@@ -53,7 +53,10 @@ pipeline_step n p (row.Pool name place operator) = told (build_told n) (after_po
 pipeline_step n p (row.Question book cycle round) = Ok p
 pipeline_step n p (row.Capacity element limit) = Ok p
 pipeline_step n p (row.Line origin dest class floor ceiling) = Ok p
+pipeline_step n p (row.Day date zone book) = Ok p
 pipeline_step n p (row.Sched at quantity) = Ok p
+pipeline_step n p (row.Price element class word spread) = Ok p
+pipeline_step n p (row.Inside member name) = Ok p
 
 abbrev pub finished : ℕ → Pipeline → Result Pipeline TextFault
 finished n p = if length p.tree == 0 then Err (fault.Row n cause.NoSegment) else Ok p
@@ -80,7 +83,10 @@ question_step n q (row.Segment name from to limit) = Ok q
 question_step n q (row.Point name kind place operator limit) = Ok q
 question_step n q (row.Pool name place operator) = Ok q
 question_step n q (row.Question book cycle round) = Ok q
+question_step n q (row.Day date zone book) = Ok q
 question_step n q (row.Sched at quantity) = Ok q
+question_step n q (row.Price element class word spread) = Ok q
+question_step n q (row.Inside member name) = Ok q
 
 abbrev pub question_under : List Row → Pipeline → Option (List ℕ × ℕ × ℕ) → Result Posed TextFault
 question_under rows p None = Err (fault.Row (length rows + 1) cause.Missing)

@@ -1,10 +1,12 @@
 //! What texts say: the values that rows build, and the rows that tell an answer.
 #![tactic(auto)]
 
+mod calendar;
 mod replies;
 mod reply;
 mod values;
 
+pub use calendar::{calendar_replies, day_of};
 pub use replies::{allowed_replies, broken_reply};
 pub use reply::{InputFault, Reply};
 pub use values::{Asked, asked_of};

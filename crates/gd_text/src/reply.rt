@@ -34,6 +34,29 @@ pub enum Reply {
     Unbalanced(Name),
     /// The total of a class, in dekatherms a gas day.
     Total(u64, u64),
+    /// The date is none of the gas days that there are.
+    OutOfRange,
+    /// The zone gives the gas day no calendar.
+    BadZone,
+    /// The moments of a cycle, in seconds since 1970.
+    Cycle {
+        cycle: u64,
+        leaves: u64,
+        received: u64,
+        quick: u64,
+        confirmed: u64,
+        schedules: u64,
+        effective: u64,
+    },
+    /// The length of a gas day in hours, and how many are over where each cycle takes effect.
+    Hours {
+        length: u64,
+        timely: u64,
+        evening: u64,
+        intraday_1: u64,
+        intraday_2: u64,
+        intraday_3: u64,
+    },
 }
 
 impl fmt::Display for InputFault {
@@ -62,6 +85,31 @@ impl fmt::Display for Reply {
             Reply::OverCapacity(element) => write!(f, "broken,OverCapacity,{element},,,,,\n"),
             Reply::Unbalanced(element) => write!(f, "broken,Unbalanced,{element},,,,,\n"),
             Reply::Total(class, quantity) => write!(f, "total,{class},{quantity},,,,,\n"),
+            Reply::OutOfRange => f.write_str("refused,calendar,1,OutOfRange,,,,\n"),
+            Reply::BadZone => f.write_str("refused,calendar,2,BadZone,,,,\n"),
+            Reply::Cycle {
+                cycle,
+                leaves,
+                received,
+                quick,
+                confirmed,
+                schedules,
+                effective,
+            } => write!(
+                f,
+                "cycle,{cycle},{leaves},{received},{quick},{confirmed},{schedules},{effective}\n"
+            ),
+            Reply::Hours {
+                length,
+                timely,
+                evening,
+                intraday_1,
+                intraday_2,
+                intraday_3,
+            } => write!(
+                f,
+                "hours,{length},{timely},{evening},{intraday_1},{intraday_2},{intraday_3},\n"
+            ),
         }
     }
 }

@@ -3,3 +3,4 @@ pub mod Digits
 pub mod EmptyFields
 pub mod RecordsTaken
 pub mod TextScan
+pub mod Utf8Test

@@ -1,5 +1,5 @@
 -- The kinds of rows.
-use Rattle.std.specs.Prelude.{ℕ, Bool, true, false, ◌==◌, List, Option, Some, None, codes, if◌then◌else◌}
+use Rattle.std.specs.Prelude.{ℕ, Bool, true, false, ◌==◌, ◌||◌, List, Option, Some, None, codes, if◌then◌else◌}
 use Rattle.std.specs.Cmp.Lexicographic.{pointwise}
 use Rattle.gd_text_part.specs.declared.kind.RowKind.{RowKind}
 use Rattle.gd_text_part.specs.declared.kind.RowKind.TheVariants as kind
@@ -68,13 +68,41 @@ stage_of kind.Skip = 9
 stage_of kind.Session = 9
 stage_of kind.Desk = 9
 
+-- rows that build a pipeline and ask a question about it
+abbrev pub asks : RowKind → Bool
+asks kind.Segment = true
+asks kind.Point = true
+asks kind.Pool = true
+asks kind.Question = true
+asks kind.Capacity = true
+asks kind.Line = true
+asks k = false
+
+abbrev pub is_sched : RowKind → Bool
+is_sched kind.Sched = true
+is_sched k = false
+
+abbrev pub is_price : RowKind → Bool
+is_price kind.Price = true
+is_price k = false
+
+abbrev pub is_inside : RowKind → Bool
+is_inside kind.Inside = true
+is_inside k = false
+
+abbrev pub is_day : RowKind → Bool
+is_day kind.Day = true
+is_day k = false
+
 -- whether the command takes rows of this kind
 abbrev pub takes : Form → RowKind → Bool
-takes form.CheckAllowed kind.Segment = true
-takes form.CheckAllowed kind.Point = true
-takes form.CheckAllowed kind.Pool = true
-takes form.CheckAllowed kind.Question = true
-takes form.CheckAllowed kind.Capacity = true
-takes form.CheckAllowed kind.Line = true
-takes form.CheckAllowed kind.Sched = true
-takes form.CheckAllowed k = false
+takes form.CheckAllowed k = asks k || is_sched k
+takes form.CheckBest k = asks k || is_sched k || is_price k
+takes form.CheckCut k = asks k || is_inside k
+takes form.Solve k = asks k
+takes form.Calendar k = is_day k
+
+-- whether a `day` row has to name a book
+abbrev pub needs_book : Form → Bool
+needs_book form.Calendar = false
+needs_book f = true

@@ -1,5 +1,6 @@
 pub mod Causes
 pub mod Csv
+pub mod Dates
 pub mod Kinds
 pub mod Numbers
 pub mod Places

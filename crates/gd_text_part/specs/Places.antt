@@ -1,7 +1,7 @@
 -- The order of rows: which may follow which, and the first fault of a record.
 use Rattle.std.specs.Prelude.{ℕ, ◌+◌, Bool, true, false, ◌==◌, ◌&&◌, ◌||◌, not, nat_le, List, length, Option, Some, None, Result, Ok, Err, if◌then◌else◌}
-use Rattle.gd_text_part.specs.Kinds.{kind_of, stage_of, takes}
-use Rattle.gd_text_part.specs.Rows.{◌>>=◌, field, segment_row, point_row, pool_row, question_row, capacity_row, line_row, sched_row}
+use Rattle.gd_text_part.specs.Kinds.{kind_of, stage_of, takes, is_sched, needs_book}
+use Rattle.gd_text_part.specs.Rows.{◌>>=◌, field, segment_row, point_row, pool_row, question_row, capacity_row, line_row, sched_row, day_row, price_row, inside_row}
 use Rattle.gd_text_part.specs.declared.fault.Cause.{Cause}
 use Rattle.gd_text_part.specs.declared.fault.Cause.TheVariants as cause
 use Rattle.gd_text_part.specs.declared.fault.RowFault.{RowFault}
@@ -21,10 +21,6 @@ is_head kind.Question = true
 is_head kind.Day = true
 is_head k = false
 
-abbrev pub is_sched : RowKind → Bool
-is_sched kind.Sched = true
-is_sched k = false
-
 -- whether a row of this kind may stand here: the command takes it, its stage is not below that of the row
 -- before it, and it is no second head
 abbrev pub may_stand : Form → Place → RowKind → Bool
@@ -35,24 +31,33 @@ abbrev pub after : Place → RowKind → Place
 after place k = record { stage = stage_of k; headed = place.headed || is_head k; scheds = if is_sched k then place.scheds + 1 else place.scheds }
 
 -- the row of this kind that the fields are, or the least bad field
-abbrev pub body : RowKind → Place → List (List ℕ) → Result Row Cause
-body kind.Segment place fields = segment_row fields
-body kind.Point place fields = point_row fields
-body kind.Pool place fields = pool_row fields
-body kind.Question place fields = question_row fields
-body kind.Capacity place fields = capacity_row fields
-body kind.Line place fields = line_row fields
-body kind.Sched place fields = sched_row (place.scheds + 1) fields
-body k place fields = Err cause.Order
+abbrev pub body : Form → RowKind → Place → List (List ℕ) → Result Row Cause
+body form kind.Segment place fields = segment_row fields
+body form kind.Point place fields = point_row fields
+body form kind.Pool place fields = pool_row fields
+body form kind.Question place fields = question_row fields
+body form kind.Day place fields = day_row (needs_book form) fields
+body form kind.Capacity place fields = capacity_row fields
+body form kind.Line place fields = line_row fields
+body form kind.Sched place fields = sched_row (place.scheds + 1) fields
+body form kind.Price place fields = price_row fields
+body form kind.Inside place fields = inside_row fields
+body form k place fields = Err cause.Order
 
-abbrev pub known_row : Form → Place → List (List ℕ) → Option RowKind → Result (Row × Place) Cause
-known_row form place fields None = Err cause.UnknownKind
-known_row form place fields (Some k) = if may_stand form place k then (body k place fields >>= λ r. Ok (r, after place k)) else Err cause.Order
+abbrev pub standing : Form → Place → Option RowKind → Result RowKind Cause
+standing form place None = Err cause.UnknownKind
+standing form place (Some k) = if may_stand form place k then Ok k else Err cause.Order
 
--- the row that a record is and where the rows stand after it, or its first fault: the count of fields, the
--- kind, the order, then the fields
+-- the kind of a record that may stand here: the count of fields, the kind, the order
+abbrev pub kind_at : Form → Place → List (List ℕ) → Result RowKind Cause
+kind_at form place fields = if length fields == 8 then standing form place (kind_of (field fields 1)) else Err cause.FieldCount
+
+-- the row that a record is and where the rows stand after it, or its first fault, that of its fields last
 abbrev pub row_at : Form → Place → List (List ℕ) → Result (Row × Place) Cause
-row_at form place fields = if length fields == 8 then known_row form place fields (kind_of (field fields 1)) else Err cause.FieldCount
+row_at form place fields = do
+  kind ← kind_at form place fields
+  row ← body form kind place fields
+  Ok (row, after place kind)
 
 -- a fault, told at row n
 abbrev pub at_row : {A : Type 0} → ℕ → Result A Cause → Result A RowFault

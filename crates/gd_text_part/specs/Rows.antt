@@ -1,14 +1,18 @@
 -- What the fields of each kind of row are.
-use Rattle.std.specs.Prelude.{ℕ, zero, suc, ◌+◌, ◌-◌, ◌==◌, ◌&&◌, nat_le, List, [], length, Option, Some, None, Result, Ok, Err, unwrap_or, codes, if◌then◌else◌}
+use Rattle.std.specs.Str.{is_utf8}
+use Rattle.std.specs.Prelude.{ℕ, ℤ, pos, Bool, zero, suc, ◌+◌, ◌-◌, ◌==◌, ◌&&◌, nat_le, List, [], length, Option, Some, None, Result, Ok, Err, unwrap_or, codes, if◌then◌else◌}
 use Rattle.csv.specs.Records.{field_at}
 use Rattle.gd_units.specs.Names.{name_of}
 use Rattle.gd_units.specs.declared.name.NameFault.{NameFault}
 use Rattle.gd_units.specs.declared.service.Kind.{Kind}
 use Rattle.gd_units.specs.declared.service.Kind.TheVariants as way
-use Rattle.gd_text_part.specs.Numbers.{number_of}
+use Rattle.gd_text_part.specs.Numbers.{number_of, signed_of}
+use Rattle.gd_text_part.specs.Dates.{YearMonthDay, date_of}
 use Rattle.gd_text_part.specs.Kinds.{is_text}
 use Rattle.gd_text_part.specs.declared.fault.Cause.{Cause}
 use Rattle.gd_text_part.specs.declared.fault.Cause.TheVariants as cause
+use Rattle.gd_text_part.specs.declared.row.Member.{Member}
+use Rattle.gd_text_part.specs.declared.row.Member.TheVariants as member
 use Rattle.gd_text_part.specs.declared.row.Row.{Row}
 use Rattle.gd_text_part.specs.declared.row.Row.TheVariants as row
 
@@ -50,6 +54,43 @@ abbrev pub point_kind_at : List (List ℕ) → ℕ → Result Kind Cause
 point_kind_at fields k =
     if is_text (field fields k) (codes "receipt") then Ok way.Receipt
     else if is_text (field fields k) (codes "delivery") then Ok way.Delivery
+    else Err (cause.BadField k)
+
+abbrev pub class_at : List (List ℕ) → ℕ → Result ℕ Cause
+class_at fields k = number_at fields k 1 8
+
+abbrev pub good_signed : ℕ → Option ℤ → Result ℤ Cause
+good_signed k (Some z) = Ok z
+good_signed k None = Err (cause.BadField k)
+
+abbrev pub signed_at : List (List ℕ) → ℕ → Result ℤ Cause
+signed_at fields k = good_signed k (signed_of (field fields k))
+
+abbrev pub signed_or_zero_at : List (List ℕ) → ℕ → Result ℤ Cause
+signed_or_zero_at fields k = if length (field fields k) == 0 then Ok (pos 0) else signed_at fields k
+
+abbrev pub name_or_none_at : List (List ℕ) → ℕ → Result (Option (List ℕ)) Cause
+name_or_none_at fields k = if length (field fields k) == 0 then Ok None else (name_at fields k >>= λ n. Ok (Some n))
+
+abbrev pub member_at : List (List ℕ) → ℕ → Result Member Cause
+member_at fields k =
+    if is_text (field fields k) (codes "place") then Ok member.Place
+    else if is_text (field fields k) (codes "point") then Ok member.Point
+    else if is_text (field fields k) (codes "pool") then Ok member.Pool
+    else Err (cause.BadField k)
+
+abbrev pub good_date : ℕ → Option YearMonthDay → Result YearMonthDay Cause
+good_date k (Some date) = Ok date
+good_date k None = Err (cause.BadField k)
+
+abbrev pub date_at : List (List ℕ) → ℕ → Result YearMonthDay Cause
+date_at fields k = good_date k (date_of (field fields k))
+
+-- a text in UTF-8 that isn't empty
+abbrev pub text_at : List (List ℕ) → ℕ → Result (List ℕ) Cause
+text_at fields k =
+    if length (field fields k) == 0 then Err (cause.BadField k)
+    else if is_utf8 (field fields k) then Ok (field fields k)
     else Err (cause.BadField k)
 
 -- the n fields from k on are empty
@@ -120,3 +161,31 @@ sched_row next fields = do
   quantity ← quantity_at fields 3
   rest ← empty_from fields 4
   Ok (row.Sched line quantity)
+
+-- the book of a gas day, which a calendar doesn't need
+abbrev pub book_at : Bool → List (List ℕ) → ℕ → Result (Option (List ℕ)) Cause
+book_at needed fields k = if needed then (name_at fields k >>= λ n. Ok (Some n)) else name_or_none_at fields k
+
+unfoldable pub day_row : Bool → List (List ℕ) → Result Row Cause
+day_row needed fields = do
+  date ← date_at fields 2
+  zone ← text_at fields 3
+  book ← book_at needed fields 4
+  rest ← empty_from fields 5
+  Ok (row.Day date zone book)
+
+unfoldable pub price_row : List (List ℕ) → Result Row Cause
+price_row fields = do
+  element ← name_at fields 2
+  class ← class_at fields 3
+  word ← signed_at fields 4
+  spread ← signed_or_zero_at fields 5
+  rest ← empty_from fields 6
+  Ok (row.Price element class word spread)
+
+unfoldable pub inside_row : List (List ℕ) → Result Row Cause
+inside_row fields = do
+  member ← member_at fields 2
+  name ← name_at fields 3
+  rest ← empty_from fields 4
+  Ok (row.Inside member name)

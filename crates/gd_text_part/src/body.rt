@@ -1,15 +1,21 @@
 //! What the fields of each kind of row are, from the second on.
 
-ghost use Rattle.std.specs.Prelude.{◌≡◌, ◌<◌, ◌+◌};
+ghost use Rattle.std.specs.Prelude.{◌≡◌, ◌<◌, ◌+◌, IfOk, MatchResult, Ok, Err};
 ghost use Rattle.csv.specs.Records.{fields_of};
+ghost use Rattle.gd_text_part.specs.declared.row.Row.TheVariants as rows;
 ghost use Rattle.gd_text_part.specs.Rows as spec;
 
+use crate::date::CivilDate;
 use crate::fault::Cause;
 use crate::fields::{
-    cycle_at, empty_from, name_at, number_at, point_kind_at, quantity_at, round_at,
+    class_at, cycle_at, date_at, empty_from, member_at, name_at, name_or_none_at, number_at,
+    point_kind_at, quantity_at, round_at, signed_at, signed_or_zero_at, text_at,
 };
 use crate::row::Row;
+use crate::zone::ZoneText;
 use csv::ByteRecord;
+use gd_units::Name;
+use std::alloc::{AllocError, Global};
 
 #[tactic(auto, unfolding(crate::specs::Rows::segment_row))]
 pub(crate) fn segment_row(row: &ByteRecord) -> Result<Row, Cause>
@@ -114,4 +120,72 @@ pub(crate) fn sched_row(next: u32, row: &ByteRecord) -> Result<Row, Cause>
         line: next,
         quantity,
     })
+}
+
+// The book of a gas day, which may be left out where it isn't needed.
+fn book_at(needed: bool, row: &ByteRecord, k: usize) -> Result<Option<Name>, Cause>
+    requires { 0 < k }
+    ensures { result ≡ spec.book_at needed (fields_of row.now) k }
+{
+    if needed {
+        Ok(Some(name_at(row, k)?))
+    } else {
+        name_or_none_at(row, k)
+    }
+}
+
+// The fields of a `day` row, with the zone's text as it stands in the record.
+#[tactic(auto, unfolding(crate::specs::Rows::day_row))]
+fn day_fields(needed: bool, row: &ByteRecord) -> Result<(CivilDate, &str, Option<Name>), Cause>
+    ensures { MatchResult result (λ d. spec.day_row needed (fields_of row.now) ≡ Ok (rows.Day d.0 d.1.now d.2)) (λ c. spec.day_row needed (fields_of row.now) ≡ Err c) }
+{
+    let date = date_at(row, 2)?;
+    let zone = text_at(row, 3)?;
+    let book = book_at(needed, row, 4)?;
+    empty_from(row, 5)?;
+    Ok((date, zone, book))
+}
+
+/// A `day` row, which names a book where one is needed.
+pub(crate) fn day_row(
+    alloc: Global,
+    needed: bool,
+    row: &ByteRecord,
+) -> Result<Result<Row, Cause>, AllocError>
+    ensures { IfOk result (λ r. r ≡ spec.day_row needed (fields_of row.now)) }
+{
+    match day_fields(needed, row) {
+        Ok((date, zone, book)) => {
+            let zone = ZoneText::of(alloc, zone)?;
+            Ok(Ok(Row::Day { date, zone, book }))
+        }
+        Err(cause) => Ok(Err(cause)),
+    }
+}
+
+#[tactic(auto, unfolding(crate::specs::Rows::price_row))]
+pub(crate) fn price_row(row: &ByteRecord) -> Result<Row, Cause>
+    ensures { result ≡ spec.price_row (fields_of row.now) }
+{
+    let element = name_at(row, 2)?;
+    let class = class_at(row, 3)?;
+    let word = signed_at(row, 4)?;
+    let spread = signed_or_zero_at(row, 5)?;
+    empty_from(row, 6)?;
+    Ok(Row::Price {
+        element,
+        class,
+        word,
+        spread,
+    })
+}
+
+#[tactic(auto, unfolding(crate::specs::Rows::inside_row))]
+pub(crate) fn inside_row(row: &ByteRecord) -> Result<Row, Cause>
+    ensures { result ≡ spec.inside_row (fields_of row.now) }
+{
+    let member = member_at(row, 2)?;
+    let name = name_at(row, 3)?;
+    empty_from(row, 4)?;
+    Ok(Row::Inside { member, name })
 }

@@ -1,11 +1,14 @@
-ghost use Rattle.std.specs.Prelude.{◌≡◌, ◌<◌, ◌≤◌, ◌+◌, IfOk};
+ghost use Rattle.std.specs.Prelude.{◌≡◌, ◌<◌, ◌≤◌, ◌+◌, IfOk, MatchResult, Ok, Err};
 ghost use Rattle.csv.specs.Records.{fields_of};
+ghost use Rattle.gd_text_part.specs.Dates as dates;
 ghost use Rattle.gd_text_part.specs.Rows as spec;
 
+use crate::date::CivilDate;
 use crate::fault::Cause;
-use crate::number::number_of;
+use crate::number::{number_of, signed_of};
+use crate::row::Member;
 use csv::ByteRecord;
-use gd_units::{CycleNo, Dth, Kind, Name, Round};
+use gd_units::{Class, CycleNo, Dth, Kind, Name, Round};
 
 /// Field `k`, where the kind is field 1. A field past the last is empty.
 pub(crate) fn field(row: &ByteRecord, k: usize) -> &[u8]
@@ -85,6 +88,105 @@ pub(crate) fn point_kind_at(row: &ByteRecord, k: usize) -> Result<Kind, Cause>
         Ok(Kind::Delivery)
     } else {
         Err(Cause::BadField(k))
+    }
+}
+
+/// The class of field `k`, 1 to 8.
+pub(crate) fn class_at(row: &ByteRecord, k: usize) -> Result<Class, Cause>
+    requires { 0 < k }
+    ensures { result ≡ spec.class_at (fields_of row.now) k }
+{
+    let number = number_at(row, k, 1, 8)?;
+    match Class::new(number as u8) {
+        Some(class) => Ok(class),
+        None => Err(Cause::BadField(k)),
+    }
+}
+
+pub(crate) fn signed_at(row: &ByteRecord, k: usize) -> Result<i64, Cause>
+    requires { 0 < k }
+    ensures { result ≡ spec.signed_at (fields_of row.now) k }
+{
+    match signed_of(field(row, k)) {
+        Some(number) => Ok(number),
+        None => Err(Cause::BadField(k)),
+    }
+}
+
+/// The signed number of field `k`, 0 where it is empty.
+pub(crate) fn signed_or_zero_at(row: &ByteRecord, k: usize) -> Result<i64, Cause>
+    requires { 0 < k }
+    ensures { result ≡ spec.signed_or_zero_at (fields_of row.now) k }
+{
+    if field(row, k).is_empty() {
+        return Ok(0);
+    }
+    signed_at(row, k)
+}
+
+/// The name of field `k`, or nothing where it is empty.
+pub(crate) fn name_or_none_at(row: &ByteRecord, k: usize) -> Result<Option<Name>, Cause>
+    requires { 0 < k }
+    ensures { result ≡ spec.name_or_none_at (fields_of row.now) k }
+{
+    if field(row, k).is_empty() {
+        return Ok(None);
+    }
+    Ok(Some(name_at(row, k)?))
+}
+
+/// What field `k` says that a member is: `place`, `point` or `pool`.
+pub(crate) fn member_at(row: &ByteRecord, k: usize) -> Result<Member, Cause>
+    requires { 0 < k }
+    ensures { result ≡ spec.member_at (fields_of row.now) k }
+{
+    let word = field(row, k);
+    if word == b"place".as_slice() {
+        Ok(Member::Place)
+    } else if word == b"point".as_slice() {
+        Ok(Member::Point)
+    } else if word == b"pool".as_slice() {
+        Ok(Member::Pool)
+    } else {
+        Err(Cause::BadField(k))
+    }
+}
+
+// The date that a text of the form YYYY-MM-DD spells.
+fn date_of(text: &[u8]) -> Option<CivilDate>
+    ensures { result ≡ dates.date_of text.now }
+{
+    if text.len() != 10 || text[4] != b'-' || text[7] != b'-' {
+        return None;
+    }
+    let year = number_of(&text[..4])?;
+    let month = number_of(&text[5..7])?;
+    let day = number_of(&text[8..])?;
+    CivilDate::new(year, month, day)
+}
+
+pub(crate) fn date_at(row: &ByteRecord, k: usize) -> Result<CivilDate, Cause>
+    requires { 0 < k }
+    ensures { result ≡ spec.date_at (fields_of row.now) k }
+{
+    match date_of(field(row, k)) {
+        Some(date) => Ok(date),
+        None => Err(Cause::BadField(k)),
+    }
+}
+
+/// The text of field `k`, which isn't empty.
+pub(crate) fn text_at(row: &ByteRecord, k: usize) -> Result<&str, Cause>
+    requires { 0 < k }
+    ensures { MatchResult result (λ text. spec.text_at (fields_of row.now) k ≡ Ok text.now) (λ c. spec.text_at (fields_of row.now) k ≡ Err c) }
+{
+    let bytes = field(row, k);
+    if bytes.is_empty() {
+        return Err(Cause::BadField(k));
+    }
+    match str::from_utf8(bytes) {
+        Ok(text) => Ok(text),
+        Err(_) => Err(Cause::BadField(k)),
     }
 }
 

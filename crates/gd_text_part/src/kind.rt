@@ -6,6 +6,14 @@ ghost use Rattle.gd_text_part.specs.Kinds as spec;
 pub enum Form {
     /// `check allowed`: a system, a question and a schedule.
     CheckAllowed,
+    /// `check best`: the same, and prices.
+    CheckBest,
+    /// `check cut`: a system, a question and a cut's set.
+    CheckCut,
+    /// `solve`: a system and a question.
+    Solve,
+    /// `calendar`: the head of a gas day.
+    Calendar,
 }
 
 /// The kinds of rows, each named by the first field. A command takes some of them.
@@ -119,22 +127,41 @@ impl RowKind {
     }
 }
 
+impl RowKind {
+    // Rows that build a system and ask a question about it.
+    fn asks(self) -> bool
+        ensures { result ≡ spec.asks self }
+    {
+        matches!(
+            self,
+            RowKind::Segment
+                | RowKind::Point
+                | RowKind::Pool
+                | RowKind::Question
+                | RowKind::Capacity
+                | RowKind::Line
+        )
+    }
+}
+
 impl Form {
+    /// Whether a `day` row has to name a book.
+    pub(crate) fn needs_book(self) -> bool
+        ensures { result ≡ spec.needs_book self }
+    {
+        !matches!(self, Form::Calendar)
+    }
+
     /// Whether the command takes rows of this kind.
     pub(crate) fn takes(self, kind: RowKind) -> bool
         ensures { result ≡ spec.takes self kind }
     {
         match self {
-            Form::CheckAllowed => matches!(
-                kind,
-                RowKind::Segment
-                    | RowKind::Point
-                    | RowKind::Pool
-                    | RowKind::Question
-                    | RowKind::Capacity
-                    | RowKind::Line
-                    | RowKind::Sched
-            ),
+            Form::CheckAllowed => kind.asks() || matches!(kind, RowKind::Sched),
+            Form::CheckBest => kind.asks() || matches!(kind, RowKind::Sched | RowKind::Price),
+            Form::CheckCut => kind.asks() || matches!(kind, RowKind::Inside),
+            Form::Solve => kind.asks(),
+            Form::Calendar => matches!(kind, RowKind::Day),
         }
     }
 }

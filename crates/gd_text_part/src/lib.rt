@@ -2,6 +2,7 @@
 #![tactic(auto)]
 
 mod body;
+mod date;
 mod fault;
 mod fields;
 mod input;
@@ -12,7 +13,9 @@ mod output;
 mod read;
 mod records;
 mod row;
+mod zone;
 
+pub use date::CivilDate;
 pub use fault::{Cause, RowFault, TextFault};
 pub use input::{MAX_BYTES, MAX_READS};
 pub use kind::{Form, RowKind};
@@ -20,7 +23,8 @@ pub use number::{number_of, signed_of};
 pub use output::{WriteFault, write_bytes};
 pub use read::read_all;
 pub use records::MAX_ROWS;
-pub use row::Row;
+pub use row::{Member, Row};
+pub use zone::ZoneText;
 
 #[cfg(test)]
 mod tests;

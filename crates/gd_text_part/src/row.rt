@@ -1,7 +1,17 @@
-use gd_units::{CycleNo, Dth, Kind, Name, Round};
+use crate::date::CivilDate;
+use crate::zone::ZoneText;
+use gd_units::{Class, CycleNo, Dth, Kind, Name, Round};
+
+/// What may be a member of a cut's set.
+#[derive(Clone, Copy, Debug, PartialEq, Eq)]
+pub enum Member {
+    Place,
+    Point,
+    Pool,
+}
 
 /// A row of a text. Quantities are dekatherms a gas day.
-#[derive(Clone, Copy, Debug, PartialEq, Eq)]
+#[derive(Debug, Drop)]
 pub enum Row {
     /// A one-way segment between two places.
     Segment {
@@ -30,6 +40,12 @@ pub enum Row {
         cycle: CycleNo,
         round: Round,
     },
+    /// The head of a gas day: its date, the time zone of its clock, and the name of its book, which a calendar doesn't need.
+    Day {
+        date: CivilDate,
+        zone: ZoneText,
+        book: Option<Name>,
+    },
     /// Another capacity of a segment or point, in this question alone.
     Capacity {
         element: Name,
@@ -47,5 +63,17 @@ pub enum Row {
     Sched {
         line: u32,
         quantity: Dth,
+    },
+    /// The two words of an element's price at one class: what a dekatherm is worth, and what the spread adds.
+    Price {
+        element: Name,
+        class: Class,
+        word: i64,
+        spread: i64,
+    },
+    /// A member of a cut's set.
+    Inside {
+        member: Member,
+        name: Name,
     },
 }

@@ -20,14 +20,19 @@ sched,1,80,,,,,
 sched,02,0,,,,,
 ";
 
-fn rows_in(alloc: Global, text: &[u8]) -> Result<Vec<Row>, TextFault> {
+fn rows_in(alloc: Global, form: Form, text: &[u8]) -> Result<Vec<Row>, TextFault> {
     let mut reader = text;
-    read_all(alloc, Form::CheckAllowed, &mut reader)
+    read_all(alloc, form, &mut reader)
+}
+
+// Rows as a debugger shows them, by which they are compared.
+fn shown(alloc: Global, rows: &[Row]) -> Result<String, AllocError> {
+    format!(in alloc; "{rows:?}")
 }
 
 // The fault of a text, with its row.
-fn fault_in(alloc: Global, text: &[u8]) -> Result<Option<(u64, Cause)>, TextFault> {
-    match rows_in(alloc, text) {
+fn fault_in(alloc: Global, form: Form, text: &[u8]) -> Result<Option<(u64, Cause)>, TextFault> {
+    match rows_in(alloc, form, text) {
         Err(TextFault::Row { row, cause }) => Ok(Some((row, cause))),
         Err(e) => Err(e),
         Ok(_) => Ok(None),
@@ -118,8 +123,10 @@ fn line(origin: Name, class: u8, floor: u64, ceiling: u64) -> Result<Row, Fail> 
 
 #[test]
 fn rows_of_every_kind(rt: HostRuntime) -> Result<(), Fail> {
-    let rows = rows_in(rt.alloc(), WHOLE)?;
-    assert_eq!(rt; rows.as_slice(), rows_of_whole(rt.alloc())?.as_slice());
+    let alloc = rt.alloc();
+    let rows = shown(alloc, rows_in(alloc, Form::CheckAllowed, WHOLE)?.as_slice())?;
+    let wanted = shown(alloc, rows_of_whole(alloc)?.as_slice())?;
+    assert_eq!(rt; rows.as_str(), wanted.as_str());
     Ok(())
 }
 
@@ -127,7 +134,7 @@ fn rows_of_every_kind(rt: HostRuntime) -> Result<(), Fail> {
 #[test]
 fn one_text_in_many_forms(rt: HostRuntime) -> Result<(), Fail> {
     let alloc = rt.alloc();
-    let wanted = rows_of_whole(alloc)?;
+    let wanted = shown(alloc, rows_of_whole(alloc)?.as_slice())?;
     for end in [
         b"\r\n".as_slice(),
         b"\r".as_slice(),
@@ -142,10 +149,8 @@ fn one_text_in_many_forms(rt: HostRuntime) -> Result<(), Fail> {
                 text.push(*byte)?;
             }
         }
-        assert_eq!(rt;
-            rows_in(alloc, text.as_slice())?.as_slice(),
-            wanted.as_slice()
-        );
+        let rows = rows_in(alloc, Form::CheckAllowed, text.as_slice())?;
+        assert_eq!(rt; shown(alloc, rows.as_slice())?.as_str(), wanted.as_str());
     }
     let mut quoted = Vec::from_slice(alloc, b"\xef\xbb\xbf\"")?;
     for byte in &WHOLE[..WHOLE.len() - 1] {
@@ -155,10 +160,8 @@ fn one_text_in_many_forms(rt: HostRuntime) -> Result<(), Fail> {
             _ => quoted.push(*byte)?,
         }
     }
-    assert_eq!(rt;
-        rows_in(alloc, quoted.as_slice())?.as_slice(),
-        wanted.as_slice()
-    );
+    let rows = rows_in(alloc, Form::CheckAllowed, quoted.as_slice())?;
+    assert_eq!(rt; shown(alloc, rows.as_slice())?.as_str(), wanted.as_str());
     Ok(())
 }
 
@@ -233,7 +236,7 @@ fn faults_behind_the_head(rt: HostRuntime) -> Result<(), Fail> {
         let mut text = Vec::from_slice(rt.alloc(), HEAD)?;
         text.extend_from_slice(rows)?;
         assert_eq!(rt;
-            fault_in(rt.alloc(), text.as_slice())?,
+            fault_in(rt.alloc(), Form::CheckAllowed, text.as_slice())?,
             Some((row, cause)),
             "{rows:?}"
         );
@@ -268,7 +271,200 @@ const FIRST_FAULTS: [(&[u8], u64, Cause); 20] = [
 #[test]
 fn faults_up_to_the_head(rt: HostRuntime) -> Result<(), Fail> {
     for (text, row, cause) in FIRST_FAULTS {
-        assert_eq!(rt; fault_in(rt.alloc(), text)?, Some((row, cause)), "{text:?}");
+        assert_eq!(rt;
+            fault_in(rt.alloc(), Form::CheckAllowed, text)?,
+            Some((row, cause)),
+            "{text:?}"
+        );
+    }
+    Ok(())
+}
+
+#[test]
+fn prices_and_members(rt: HostRuntime) -> Result<(), Fail> {
+    let alloc = rt.alloc();
+    let prices = b"question,DEMO,1,1,,,,\nprice,S1,4,1,-4,,,\nprice,S1,8,-2,,,,\n".as_slice();
+    let rows = rows_in(alloc, Form::CheckBest, prices)?;
+    let [
+        _,
+        Row::Price {
+            class: first,
+            word: 1,
+            spread: -4,
+            ..
+        },
+        Row::Price {
+            class: second,
+            word: -2,
+            spread: 0,
+            ..
+        },
+    ] = rows.as_slice()
+    else {
+        return Err("two prices".into());
+    };
+    assert_eq!(rt; (first.number(), second.number()), (4, 8));
+    let members = b"question,DEMO,1,1,,,,\ninside,place,A,,,,,\ninside,pool,P1,,,,,\n".as_slice();
+    let rows = rows_in(alloc, Form::CheckCut, members)?;
+    let [
+        _,
+        Row::Inside {
+            member: Member::Place,
+            ..
+        },
+        Row::Inside {
+            member: Member::Pool,
+            name: pool,
+        },
+    ] = rows.as_slice()
+    else {
+        return Err("two members".into());
+    };
+    assert_eq!(rt; pool.as_str(), "P1");
+    Ok(())
+}
+
+#[test]
+fn a_gas_day(rt: HostRuntime) -> Result<(), Fail> {
+    let text = b"day,2028-02-29,\"CST6CDT,M3.2.0,M11.1.0\",,,,,\n".as_slice();
+    let rows = rows_in(rt.alloc(), Form::Calendar, text)?;
+    let [
+        Row::Day {
+            date,
+            zone,
+            book: None,
+        },
+    ] = rows.as_slice()
+    else {
+        return Err("one gas day".into());
+    };
+    assert_eq!(rt; zone.as_str(), "CST6CDT,M3.2.0,M11.1.0");
+    assert_eq!(rt; date.date(), jiff::civil::date(2028, 2, 29));
+    Ok(())
+}
+
+// Faults of rows of other commands, behind the head of a question where they need one.
+const OTHER_FAULTS: [(Form, &[u8], u64, Cause); 20] = [
+    (
+        Form::CheckBest,
+        b"question,DEMO,1,1,,,,\nprice,S1,0,1,,,,",
+        2,
+        Cause::BadField(3),
+    ),
+    (
+        Form::CheckBest,
+        b"question,DEMO,1,1,,,,\nprice,S1,9,1,,,,",
+        2,
+        Cause::BadField(3),
+    ),
+    (
+        Form::CheckBest,
+        b"question,DEMO,1,1,,,,\nprice,S1,8,,,,,",
+        2,
+        Cause::BadField(4),
+    ),
+    (
+        Form::CheckBest,
+        b"question,DEMO,1,1,,,,\nprice,S1,8,1,-,,,",
+        2,
+        Cause::BadField(5),
+    ),
+    (
+        Form::CheckBest,
+        b"question,DEMO,1,1,,,,\nprice,S1,8,1,1,0,,",
+        2,
+        Cause::BadField(6),
+    ),
+    (
+        Form::CheckBest,
+        b"question,DEMO,1,1,,,,\nprice,S1,8,1,,,,\nsched,1,1,,,,,",
+        3,
+        Cause::Order,
+    ),
+    (
+        Form::CheckCut,
+        b"question,DEMO,1,1,,,,\ninside,line,A,,,,,",
+        2,
+        Cause::BadField(2),
+    ),
+    (
+        Form::CheckCut,
+        b"question,DEMO,1,1,,,,\ninside,place,,,,,,",
+        2,
+        Cause::BadField(3),
+    ),
+    (
+        Form::CheckCut,
+        b"question,DEMO,1,1,,,,\nsched,1,1,,,,,",
+        2,
+        Cause::Order,
+    ),
+    (
+        Form::Solve,
+        b"question,DEMO,1,1,,,,\nsched,1,1,,,,,",
+        2,
+        Cause::Order,
+    ),
+    (Form::Calendar, b"", 1, Cause::Missing),
+    (Form::Calendar, b"question,DEMO,1,1,,,,", 1, Cause::Order),
+    (
+        Form::Calendar,
+        b"day,2026-03-08,U,,,,,\nday,2026-03-08,U,,,,,",
+        2,
+        Cause::Order,
+    ),
+    (
+        Form::Calendar,
+        b"day,2026-02-29,U,,,,,",
+        1,
+        Cause::BadField(2),
+    ),
+    (
+        Form::Calendar,
+        b"day,2026-3-08,U,,,,,",
+        1,
+        Cause::BadField(2),
+    ),
+    (
+        Form::Calendar,
+        b"day,2026-03/08,U,,,,,",
+        1,
+        Cause::BadField(2),
+    ),
+    (
+        Form::Calendar,
+        b"day,2026-03-08,,,,,,",
+        1,
+        Cause::BadField(3),
+    ),
+    (
+        Form::Calendar,
+        b"day,2026-03-08,\xff,,,,,",
+        1,
+        Cause::BadField(3),
+    ),
+    (
+        Form::Calendar,
+        b"day,2026-03-08,U,demo,,,,",
+        1,
+        Cause::BadField(4),
+    ),
+    (
+        Form::Calendar,
+        b"day,2026-03-08,U,DEMO,0,,,",
+        1,
+        Cause::BadField(5),
+    ),
+];
+
+#[test]
+fn faults_of_other_commands(rt: HostRuntime) -> Result<(), Fail> {
+    for (form, text, row, cause) in OTHER_FAULTS {
+        assert_eq!(rt;
+            fault_in(rt.alloc(), form, text)?,
+            Some((row, cause)),
+            "{text:?}"
+        );
     }
     Ok(())
 }

@@ -1,6 +1,4 @@
-use Rattle.std.proofs.Common.{rules, sym, ◌∙◌, ap, arith, ◌≡◌, ◌≤◌, take, length}
-use Rattle.std.specs.Io.KnownBytes.{Appends}
-use Rattle.std.specs.String.{string_bytes}
+use Rattle.std.proofs.Common.{◌∙◌, arith, ◌≡◌}
 use Rattle.gd_text.specs.Lines.{line_of}
 use Rattle.gasday_part.proofs.Writing.{no_memory_after, stops_in}
 use Rattle.gasday_part.proofs.engine.tell.Goals as goal

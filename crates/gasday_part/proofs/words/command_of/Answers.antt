@@ -21,3 +21,13 @@ pub returns-clause-help_of_check : goal.returns-clause-help_of_check
 returns-clause-help_of_check g c h =
     let words = map g.S.AsStr.text c.args.words.now in
     forms.is_help _ words (forms.help_of_check words h) c.command_by_clap.ensures.faultless c.command_by_clap.ensures.faults
+
+pub returns-clause-calendar : goal.returns-clause-calendar
+returns-clause-calendar g c h =
+    let words = map g.S.AsStr.text c.args.words.now in
+    forms.is_command _ _ _ _ (forms.calendar words h) (forms.calendar_is words h) c.command_by_clap.ensures.meaning c.command_by_clap.ensures.taken
+
+pub returns-clause-help_of_calendar : goal.returns-clause-help_of_calendar
+returns-clause-help_of_calendar g c h =
+    let words = map g.S.AsStr.text c.args.words.now in
+    forms.is_help _ words (forms.help_of_calendar words h) c.command_by_clap.ensures.faultless c.command_by_clap.ensures.faults

@@ -10,10 +10,10 @@ pub rows-preserved : goal.rows-preserved
 rows-preserved c =
     let took = rw c.if-branch.true at c.in_ok-advance.ensures.takes in
     let told = rw took.1 at c.rows.invariant.told in
-    let row = rw took.2 at (sym c.row_of.ensures.row ∙ c.in-Ok.is) in
+    let row = rw took.2 at (sym c.in_ok-row.ensures.row ∙ c.in-Ok.is) in
     let good : is_ok c.push.result ≡ true = search rules in
     let items = rw good at c.push.ensures.items in
-    let grown = c.in-Ok.ensures.scheds in
+    let grown = rw c.in-Ok.is at c.in_ok-row.ensures.scheds in
     record {
       reading = took.0;
       told = rw (items, took.2) (goes_on c.args.form c.rows.place c.in-Ok.next (c.rows.records.taken + 1) c.in-Ok.row (fields_of c.advance.new.self.current) (records_left c.advance.new.self) c.rows.rows.items _ row told);
@@ -25,7 +25,7 @@ pub returns-in-Err : goal.returns-in-Err
 returns-in-Err c =
     let took = rw c.if-branch.true at c.in_ok-advance.ensures.takes in
     let told = rw took.1 at c.rows.invariant.told in
-    let row = rw took.2 at (sym c.row_of.ensures.row ∙ c.in-Err.is) in
+    let row = rw took.2 at (sym c.in_ok-row.ensures.row ∙ c.in-Err.is) in
     let few = c.in_ok-skip_rest-in-Err.ensures.few in
     rw c.into.ensures (
       record { bytes = c.requires; rows = omega (arith, few, c.rows.invariant.all, ap length took.1, took.2) },

@@ -1,0 +1,9 @@
+use Rattle.std.proofs.Common.{◌≡◌, ◌∙◌, ap, ap₂}
+use Rattle.std.proofs.lemmas.Result.{IfOk-weaker}
+use Rattle.clap.specs.Words.{App, app_of, with_subcommand}
+use Rattle.gasday_part.proofs.line.gasday.Goals as goal
+
+pub returns : goal.returns
+returns c =
+    let checks : app_of c.in_ok-with_check.with_check ≡ _ = c.in_ok-with_check.ensures.shape c.in_ok-check.ensures.local ∙ ap₂ with_subcommand c.bare.ensures (ap (λ (a : App). a.top) c.in_ok-check.ensures.app) in
+    IfOk-weaker c.subcommand-2.result _ _ (λ r h. h.shape c.calendar.ensures.local ∙ ap₂ with_subcommand checks (ap (λ (a : App). a.top) c.calendar.ensures.app)) c.subcommand-2.ensures

@@ -1,0 +1,5 @@
+pub mod Range
+pub mod Mark
+pub mod Calendar
+pub mod Zone
+pub mod Clock

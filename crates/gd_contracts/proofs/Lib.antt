@@ -1,0 +1,5 @@
+pub mod Graded
+pub mod InPath
+pub mod Named
+pub mod Classed
+mod Rows

@@ -1,0 +1,167 @@
+ghost use Rattle.std.specs.Prelude.{◌≡◌, ℕ, ◌<◌, ◌≤◌, ◌==◌, ◌++◌, ◌∷◌, [], length, None, Some, IfOk, IfErr, OnOk, OnErr, Ok, Err, ◌⊎◌};
+ghost use Rattle.gd_contracts.specs.Held.{none_on, contract_named, checked_contract, after_contract};
+ghost use Rattle.gd_contracts.specs.Held as spec;
+ghost use Rattle.gd_contracts.specs.Known.{IsHeld};
+ghost use Rattle.gd_contracts.specs.Inside.{contract_of};
+ghost use Rattle.gd_system.specs.Pipeline.{same_name};
+ghost use Rattle.indexmap.specs.IndexMap.{spare, get, IsUnique};
+
+use crate::{Contract, ContractFault, Service};
+use gd_system::{RouteFault, System};
+use gd_units::{Dth, Name};
+use indexmap::IndexMap;
+use std::alloc::Global;
+use std::marker::Model;
+
+/// What a contract says under its name.
+#[derive(Clone, Copy, Debug)]
+struct Terms {
+    shipper: Name,
+    quantity: Dth,
+    service: Service,
+}
+
+// Adds a new name with its value, last, in room that is there.
+fn enter<V: Drop>(entries: &mut IndexMap<Name, V>, name: Name, value: V)
+    requires room { 0 < spare entries.old }
+    requires new { get same_name entries.old name ≡ None }
+    ensures last { entries.new.entries ≡ entries.old.entries ++ (name, value) ∷ [] }
+    ensures unique { IsUnique same_name entries.new }
+{
+    entries.insert(name, value).unwrap();
+}
+
+// What is kept of a contract under its name.
+fn terms_of(contract: Contract) -> Terms
+    ensures { contract_of (contract.name, result) ≡ contract }
+{
+    Terms {
+        shipper: contract.shipper,
+        quantity: contract.quantity,
+        service: contract.service,
+    }
+}
+
+// Why no route leads between the primary ends of firm service, if none does.
+fn primary_refusal(system: &System, service: Service) -> Option<RouteFault>
+    ensures { result ≡ spec.primary_refusal system.now service }
+{
+    match service {
+        Service::Firm { origin, dest } => system.ends(origin, dest).err(),
+        Service::Interruptible { .. } => None,
+    }
+}
+
+/// A pipeline and the contracts that shippers hold on it, by name, in order of entry. No call takes memory but `add`.
+#[derive(Drop)]
+pub struct Contracts {
+    pub(crate) system: System,
+    terms: IndexMap<Name, Terms>,
+}
+
+impl Model for Contracts {
+    ghost use Rattle.gd_contracts.specs.Held.{Held};
+
+    ghost Value = { Held };
+
+    ghost use Rattle.gd_contracts.specs.Inside.{held_of, IsHeldInside};
+
+    ghost view = { held_of };
+
+    ghost invariant = { IsHeldInside };
+}
+
+impl Contracts {
+    /// No contract on a pipeline.
+    pub fn new(alloc: Global, system: System) -> Contracts
+        ensures { result ≡ none_on system }
+    {
+        system.known();
+        Contracts {
+            system,
+            terms: IndexMap::new(alloc),
+        }
+    }
+
+    /// What holds of all contracts.
+    pub fn known(&self)
+        ensures { IsHeld self.now }
+    {
+        let _ = &self.terms;
+    }
+
+    /// The pipeline.
+    pub fn system(&self) -> &System
+        ensures { result.now ≡ self.now.pipeline }
+    {
+        &self.system
+    }
+
+    /// The number of contracts, at most 4,096.
+    pub fn len(&self) -> usize
+        ensures { result ≡ length self.now.contracts }
+    {
+        self.terms.len()
+    }
+
+    /// Whether there is no contract.
+    pub fn is_empty(&self) -> bool
+        ensures { result ≡ (length self.now.contracts == 0) }
+    {
+        self.len() == 0
+    }
+
+    /// The contract of this name.
+    pub fn contract(&self, name: Name) -> Option<Contract>
+        ensures { result ≡ contract_named self.now.contracts name }
+    {
+        let terms = self.terms.get(&name)?;
+        Some(Contract {
+            name,
+            shipper: terms.shipper,
+            quantity: terms.quantity,
+            service: terms.service,
+        })
+    }
+
+    // The first refusal of a contract.
+    fn check(&self, name: Name, service: Service) -> Result<(), ContractFault>
+        ensures is { result ≡ checked_contract self.now name service }
+        ensures new { OnOk result (contract_named self.now.contracts name ≡ None) }
+        ensures few { OnOk result (length self.now.contracts < 4096) }
+    {
+        if self.terms.contains_key(&name) {
+            return Err(ContractFault::Duplicate);
+        }
+        if let Some(fault) = primary_refusal(&self.system, service) {
+            return Err(ContractFault::Route(fault));
+        }
+        if self.terms.len() >= 4096 {
+            return Err(ContractFault::TooMany);
+        }
+        Ok(())
+    }
+
+    /// Adds a contract, last.
+    ///
+    /// # Errors
+    ///
+    /// `Duplicate`, for firm service the first refusal of the route between its primary ends, and `TooMany` (the
+    /// 4,097th contract), the first of these that applies, and else `OutOfMemory`. After any of them the contracts
+    /// are as they were.
+    pub fn add(&mut self, contract: Contract) -> Result<(), ContractFault>
+        ensures done { OnOk result (after_contract self.old contract ≡ Ok self.new) }
+        ensures refused { (fault : ContractFault) → after_contract self.old contract ≡ Err fault → result ≡ Err fault }
+        ensures memory { IfErr result (λ fault. (after_contract self.old contract ≡ Err fault) ⊎ (fault ≡ ContractFault.OutOfMemory)) }
+        ensures kept { OnErr result (self.new ≡ self.old) }
+    {
+        let name = contract.name;
+        let terms = terms_of(contract);
+        self.check(name, terms.service)?;
+        if self.terms.reserve(1).is_err() {
+            return Err(ContractFault::OutOfMemory);
+        }
+        enter(&mut self.terms, name, terms);
+        Ok(())
+    }
+}
