@@ -11,3 +11,5 @@ pub mod Tariff
 pub mod Units
 pub mod Cut
 pub mod GasDay
+pub mod Bounds
+pub mod Lines
