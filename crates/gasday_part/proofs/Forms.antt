@@ -7,7 +7,7 @@ use Rattle.clap.specs.declared.error.kind.ErrorKind.TheVariants as kind
 use Rattle.gasday_part.specs.declared.command.Command.{Command}
 use Rattle.gasday_part.specs.declared.fault.UsageFault.{UsageFault}
 use Rattle.gasday_part.specs.declared.fault.UsageFault.TheVariants.{Help, Usage, OutOfMemory}
-use Rattle.gasday_part.specs.Meaning.{Meaning, CheckAllowed, Calendar, gasday, meaning_of, arguments}
+use Rattle.gasday_part.specs.Meaning.{Meaning, CheckAllowed, CheckBest, CheckCut, Calendar, gasday, meaning_of, arguments}
 use Rattle.gasday_part.specs.Seen.{seen}
 use Rattle.gasday_part.specs.Told.{IsCommand, IsHelp, IsTold}
 
@@ -32,6 +32,22 @@ check_allowed words h = simp h
 pub check_allowed_is : (words : List Text) → arguments words ≡ codes "check" ∷ codes "allowed" ∷ [] → meaning_of words ≡ Some CheckAllowed
 unfolding clap_on_literals
 check_allowed_is words h = simp h
+
+pub check_best : (words : List Text) → arguments words ≡ codes "check" ∷ codes "best" ∷ [] → takes gasday words ≡ true
+unfolding clap_on_literals
+check_best words h = simp h
+
+pub check_best_is : (words : List Text) → arguments words ≡ codes "check" ∷ codes "best" ∷ [] → meaning_of words ≡ Some CheckBest
+unfolding clap_on_literals
+check_best_is words h = simp h
+
+pub check_cut : (words : List Text) → arguments words ≡ codes "check" ∷ codes "cut" ∷ [] → takes gasday words ≡ true
+unfolding clap_on_literals
+check_cut words h = simp h
+
+pub check_cut_is : (words : List Text) → arguments words ≡ codes "check" ∷ codes "cut" ∷ [] → meaning_of words ≡ Some CheckCut
+unfolding clap_on_literals
+check_cut_is words h = simp h
 
 pub calendar : (words : List Text) → arguments words ≡ codes "calendar" ∷ [] → takes gasday words ≡ true
 unfolding clap_on_literals

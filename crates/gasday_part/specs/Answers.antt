@@ -1,5 +1,5 @@
 -- What a command answers to a text.
-use Rattle.std.specs.Prelude.{◌≡◌, ◌⊎◌, ℕ, ◌+◌, pos, length, Option, Some, None, List, [], ◌∷◌, Result, Ok, Err}
+use Rattle.std.specs.Prelude.{◌≡◌, ◌⊎◌, ℕ, ◌+◌, pos, length, map, Option, Some, None, List, [], ◌∷◌, Result, Ok, Err}
 use Rattle.std.specs.Option.{IsSome}
 use Rattle.jiff.specs.Words.{IsYmd, read_whole}
 use Rattle.jiff.specs.Placed.{IsPosixZone}
@@ -7,6 +7,16 @@ use Rattle.jiff.specs.Types.{Date, TimeZone}
 use Rattle.gd_calendar.specs.Range.{IsGasDay}
 use Rattle.gd_calendar.specs.Zone.{IsCalendarOf, IsBadZone}
 use Rattle.gd_rules.specs.Schedule.{IsAllowed}
+use Rattle.gd_rules.specs.Spread.{IsBest}
+use Rattle.gd_rules.specs.Tariff.{IsPricedByTariff}
+use Rattle.gd_rules.specs.Cut.{excess}
+use Rattle.gd_cost.specs.Parts.{class_words}
+use Rattle.gd_cost.specs.declared.lex.Lex.{Lex}
+use Rattle.gd_cost.specs.declared.pair.Pair.{Pair}
+use Rattle.gd_certificate.specs.InForce.{ExplainsTariff}
+use Rattle.gd_certificate.specs.Cutting.{Members, Cuts, ExplainsCut, side_of}
+use Rattle.gd_certificate.specs.declared.CertFault.{CertFault}
+use Rattle.gd_certificate.specs.declared.cut.CutFault.{CutFault}
 use Rattle.gd_question.specs.Posed.{Posed}
 use Rattle.gd_schedule.specs.Exact.{Explains}
 use Rattle.gd_schedule.specs.declared.Broken.{Broken}
@@ -21,7 +31,9 @@ use Rattle.gd_text_part.specs.declared.kind.Form.{Form}
 use Rattle.gd_text_part.specs.declared.kind.Form.TheVariants as form
 use Rattle.gd_text.specs.Calendars.{day_of, calendar_rows}
 use Rattle.gd_text.specs.Values.{asked_of}
-use Rattle.gd_text.specs.Replies.{allowed_rows, Tells}
+use Rattle.gd_text.specs.Prices.{Table, ArePrices, prices_of}
+use Rattle.gd_text.specs.Members.{members_of}
+use Rattle.gd_text.specs.Replies.{allowed_rows, best_rows, Tells, TellsFault, cut_fault_reply}
 use Rattle.gd_text.specs.declared.reply.Reply.{Reply}
 use Rattle.gd_text.specs.declared.reply.Reply.TheVariants as reply
 use Rattle.gd_text.specs.declared.reply.InputFault.TheVariants as input
@@ -51,9 +63,39 @@ abbrev pub ChecksAsked : Result (Posed × List ℕ) TextFault → Told → Type 
 ChecksAsked (Ok asked) a = ChecksAllowed asked.0 asked.1 a
 ChecksAsked (Err f) a = a ≡ fault_answer f
 
--- a gas day has no calendar, which is told with status 1
+-- what is not good is told in one row, with status 1
 abbrev pub refused : Reply → Told
 refused r = record { replies = r ∷ []; status = 1 }
+
+-- The schedule is best, since the prices are right, and its class totals are told, with status 0. Or something is wrong, and what is first wrong is told, with status 1.
+abbrev pub ChecksPrices : Posed → List ℕ → List (Pair (Lex 8) (Lex 8)) → Told → Type 0
+ChecksPrices q schedule prices a =
+    (IsAllowed q.asked schedule × IsPricedByTariff q.asked schedule (map class_words prices) × IsBest q.asked schedule × (a ≡ record { replies = best_rows q.asked schedule; status = 0 }))
+    ⊎ ((fault : CertFault) × (r : Reply) × ExplainsTariff q.asked schedule (map class_words prices) fault × TellsFault q fault r × (a ≡ refused r))
+
+-- the prices that the rows give are checked, or the first refusal is told
+abbrev pub ChecksTable : Posed → List ℕ → Result Table TextFault → Told → Type 0
+ChecksTable q schedule (Ok table) a = (prices : List (Pair (Lex 8) (Lex 8))) × ArePrices table prices × ChecksPrices q schedule prices a
+ChecksTable q schedule (Err f) a = a ≡ fault_answer f
+
+abbrev pub ChecksBest : List Row → Result (Posed × List ℕ) TextFault → Told → Type 0
+ChecksBest rows (Ok asked) a = ChecksTable asked.0 asked.1 (prices_of rows asked.0.pipeline) a
+ChecksBest rows (Err f) a = a ≡ fault_answer f
+
+-- No schedule is allowed, since more must leave the set than can, and how much more is told, with status 0. Or the set is no cut, which is told with status 1.
+abbrev pub ChecksSet : Posed → Members → Told → Type 0
+ChecksSet q m a =
+    ((excess_of : ℕ) × Cuts q m × (pos excess_of ≡ excess q.asked (side_of q.pipeline m)) × ((schedule : List ℕ) → ¬ (IsAllowed q.asked schedule)) × (a ≡ record { replies = reply.Cut excess_of ∷ []; status = 0 }))
+    ⊎ ((fault : CutFault) × ExplainsCut q m fault × (a ≡ refused (cut_fault_reply fault)))
+
+-- the set that the rows name is checked, or the first refusal is told
+abbrev pub ChecksMembers : Posed → Result Members TextFault → Told → Type 0
+ChecksMembers q (Ok m) a = ChecksSet q m a
+ChecksMembers q (Err f) a = a ≡ fault_answer f
+
+abbrev pub ChecksCut : List Row → Result (Posed × List ℕ) TextFault → Told → Type 0
+ChecksCut rows (Ok asked) a = ChecksMembers asked.0 (members_of rows asked.0.pipeline) a
+ChecksCut rows (Err f) a = a ≡ fault_answer f
 
 -- The zone's calendar of a gas day is told, with status 0; or there is none.
 abbrev pub TellsZone : TimeZone → Date → Told → Type 0
@@ -80,11 +122,15 @@ TellsCalendar end None a = a ≡ fault_answer (fault.Row end cause.Missing)
 -- how a command's text is read
 abbrev pub form_of : Command → Form
 form_of command.CheckAllowed = form.CheckAllowed
+form_of command.CheckBest = form.CheckBest
+form_of command.CheckCut = form.CheckCut
 form_of command.Calendar = form.Calendar
 
 -- what a command answers to the rows of its text
 abbrev pub AnswersRows : Command → List Row → Told → Type 0
 AnswersRows command.CheckAllowed rows a = ChecksAsked (asked_of rows) a
+AnswersRows command.CheckBest rows a = ChecksBest rows (asked_of rows) a
+AnswersRows command.CheckCut rows a = ChecksCut rows (asked_of rows) a
 AnswersRows command.Calendar rows a = TellsCalendar (length rows + 1) (day_of rows) a
 
 -- the rows are answered, or the first fault is told

@@ -28,12 +28,18 @@ gasday = with_subcommand (with_subcommand bare check.top) calendar.top
 -- what the program is to do
 pub data Meaning : Type 0 where
   CheckAllowed : Meaning
+  CheckBest : Meaning
+  CheckCut : Meaning
   Calendar : Meaning
 
 -- the check that the word after `check` names
 abbrev pub check_named : Option Text → Option Meaning
 check_named None = None
-check_named (Some word) = if bytes_eq word (codes "allowed") then Some CheckAllowed else None
+check_named (Some word) =
+    if bytes_eq word (codes "allowed") then Some CheckAllowed
+    else if bytes_eq word (codes "best") then Some CheckBest
+    else if bytes_eq word (codes "cut") then Some CheckCut
+    else None
 
 -- the command of a subcommand's name and of what it was given
 abbrev pub command_from : Text → Option Text → Option Meaning

@@ -5,6 +5,7 @@ ghost use Rattle.gasday_part.specs.Answers as spec;
 ghost use Rattle.gasday_part.specs.AnswerSeen.{answer_seen};
 ghost use Rattle.gd_text_part.specs.declared.fault.TextFault.TheVariants.{OutOfMemory};
 
+use crate::certificate::{tell_best, tell_cut};
 use crate::command::Command;
 use crate::day::tell_day;
 use gd_text::{Asked, InputFault, Reply, allowed_replies, asked_of, broken_reply, day_of};
@@ -28,8 +29,8 @@ pub(crate) fn of_one(alloc: Global, reply: Reply, status: u8) -> Result<Answer, 
     Ok(Answer { replies, status })
 }
 
-// The answer to a text that could not be read, or whose rows were refused.
-fn of_fault(alloc: Global, fault: TextFault) -> Result<Answer, AllocError>
+/// The answer to a text that could not be read, or whose rows were refused.
+pub(crate) fn of_fault(alloc: Global, fault: TextFault) -> Result<Answer, AllocError>
     ensures { IfOk result (λ a. answer_seen a ≡ spec.fault_answer fault) }
 {
     let reply = match fault {
@@ -71,16 +72,21 @@ fn check_allowed(alloc: Global, asked: &Asked) -> Result<Answer, AllocError>
 fn answer_to_rows(alloc: Global, command: Command, rows: &[Row]) -> Result<Answer, AllocError>
     ensures { IfOk result (λ a. spec.AnswersRows command rows.now (answer_seen a)) }
 {
-    match command {
-        Command::CheckAllowed => match asked_of(alloc, rows) {
-            Ok(asked) => check_allowed(alloc, &asked),
-            Err(TextFault::OutOfMemory) => Err(AllocError),
-            Err(fault) => of_fault(alloc, fault),
-        },
-        Command::Calendar => match day_of(rows) {
+    if let Command::Calendar = command {
+        return match day_of(rows) {
             Some(asked) => tell_day(alloc, asked.0, asked.1),
             None => of_fault(alloc, missing(rows.len() as u64 + 1)),
-        },
+        };
+    }
+    let asked = match asked_of(alloc, rows) {
+        Ok(asked) => asked,
+        Err(TextFault::OutOfMemory) => return Err(AllocError),
+        Err(fault) => return of_fault(alloc, fault),
+    };
+    match command {
+        Command::CheckBest => tell_best(alloc, &asked, rows),
+        Command::CheckCut => tell_cut(alloc, &asked.question, rows),
+        _ => check_allowed(alloc, &asked),
     }
 }
 

@@ -14,6 +14,10 @@ use gd_text_part::Form;
 pub enum Command {
     /// Tells whether the schedule behind a question is allowed, and its total by class.
     CheckAllowed,
+    /// Tells whether prices show that the schedule is best.
+    CheckBest,
+    /// Tells whether a set shows that no schedule is allowed.
+    CheckCut,
     /// Tells the moments of a gas day's five cycles, and its hours.
     Calendar,
 }
@@ -25,6 +29,8 @@ impl Command {
     {
         match self {
             Command::CheckAllowed => Form::CheckAllowed,
+            Command::CheckBest => Form::CheckBest,
+            Command::CheckCut => Form::CheckCut,
             Command::Calendar => Form::Calendar,
         }
     }
@@ -36,6 +42,8 @@ fn check_named(word: Option<&str>) -> Option<Command>
 {
     match word {
         Some("allowed") => Some(Command::CheckAllowed),
+        Some("best") => Some(Command::CheckBest),
+        Some("cut") => Some(Command::CheckCut),
         _ => None,
     }
 }

@@ -39,7 +39,7 @@ pub(crate) fn fault_of(alloc: Global, error: &clap::Error) -> UsageFault
 
 fn text_of_unknown_check(alloc: Global, word: &str) -> Result<String, AllocError> {
     format!(in alloc;
-        "error: invalid value '{word}' for '<WHAT>'\n  [possible values: allowed]\n\n\
+        "error: invalid value '{word}' for '<WHAT>'\n  [possible values: allowed, best, cut]\n\n\
          For more information, try '--help'.\n"
     )
 }

@@ -7,6 +7,7 @@
 #![tactic(auto)]
 
 mod answer;
+mod certificate;
 mod command;
 mod day;
 mod engine;

@@ -20,17 +20,21 @@ Example:
 
 Exit status:
   0  the answer is good
-  1  a schedule is broken, or a gas day has no calendar
+  1  a schedule, a price or a cut is broken, or a gas day has no calendar
   2  a fault of the command line, the input, the output or the memory";
 
 const ABOUT_CHECK: &str =
-    "'check allowed' tells whether a schedule is allowed, and its total by class";
+    "Tells whether a schedule is allowed or best, or that none can be: 'check allowed', 'check best', 'check cut'";
 
 const HELP_OF_WHAT: &str = "allowed: each line's quantity lies between its floor and its ceiling,
-each load is within its capacity, and each pool is in balance";
+each load is within its capacity, and each pool is in balance;
+best: prices show that no allowed schedule is better;
+cut: a set of places, points and pools shows that no schedule is allowed";
 
-const AFTER_HELP_OF_CHECK: &str = "Example:
-  gasday check allowed < examples/two-lines.csv";
+const AFTER_HELP_OF_CHECK: &str = "Examples:
+  gasday check allowed < examples/two-lines.csv
+  gasday check best < examples/two-lines-priced.csv
+  gasday check cut < examples/pool-cut.csv";
 
 // `check WHAT`. clap takes any WHAT: a list of possible values would put references into the meaning
 // of the line, so the program tells the words apart itself.

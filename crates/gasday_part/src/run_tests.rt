@@ -285,3 +285,75 @@ fn calendars(rt: HostRuntime) -> Result<(), Fail> {
     }
     Ok(())
 }
+
+// What is added to the text, and whether it shows the schedule best: the prices of S1, the last of them one too large.
+const PRICES: [(&[u8], &[u8], u8); 5] = [
+    (
+        b"price,S1,4,1,-4,,,\n",
+        b"best,,,,,,,\ntotal,1,80,,,,,\ntotal,2,0,,,,,\ntotal,3,0,,,,,\ntotal,4,20,,,,,\n",
+        0,
+    ),
+    (b"price,S1,4,1,,,,\n", b"broken,Overfilled,2,,,,,\n", 1),
+    (b"", b"broken,Underfilled,2,,,,,\n", 1),
+    (
+        b"price,S1,4,1099511627776,,,,\n",
+        b"broken,Overfilled,2,,,,,\n",
+        1,
+    ),
+    (
+        b"price,S1,4,1099511627777,,,,\n",
+        b"broken,PriceTooLarge,S1,,,,,\n",
+        1,
+    ),
+];
+
+#[test]
+fn prices(rt: HostRuntime) -> Result<(), Fail> {
+    for (rows, wanted, status) in PRICES {
+        let mut text = Vec::from_slice(rt.alloc(), TEXT)?;
+        text.extend_from_slice(rows)?;
+        let mut reader = text.as_slice();
+        let mut answer = Vec::new(rt.alloc());
+        let told = run(rt.alloc(), Command::CheckBest, &mut reader, &mut answer);
+        assert_eq!(rt; answer.as_slice(), wanted);
+        assert_eq!(rt; told, status);
+    }
+    Ok(())
+}
+
+// A pool at B that must take 100 and can send on so much, and the set behind which the gas is caught.
+const POOL: [(&[u8], &[u8], u8); 2] = [
+    (b"40", b"cut,60,,,,,,\n", 0),
+    (b"100", b"broken,NotCut,,,,,,\n", 1),
+];
+
+#[test]
+fn cuts(rt: HostRuntime) -> Result<(), Fail> {
+    for (ceiling, wanted, status) in POOL {
+        let mut text = Vec::from_slice(
+            rt.alloc(),
+            b"segment,S1,A,B,1000,,,
+point,R1,receipt,A,OPR,1000,,
+point,D1,delivery,B,OPD,1000,,
+pool,P1,B,OPP,,,,
+question,DEMO,1,1,,,,
+line,R1,P1,1,100,100,,
+line,P1,D1,1,40,",
+        )?;
+        text.extend_from_slice(ceiling)?;
+        text.extend_from_slice(
+            b",,
+inside,place,A,,,,,
+inside,place,B,,,,,
+inside,point,R1,,,,,
+inside,point,D1,,,,,
+",
+        )?;
+        let mut reader = text.as_slice();
+        let mut answer = Vec::new(rt.alloc());
+        let told = run(rt.alloc(), Command::CheckCut, &mut reader, &mut answer);
+        assert_eq!(rt; answer.as_slice(), wanted);
+        assert_eq!(rt; told, status);
+    }
+    Ok(())
+}

@@ -3,11 +3,13 @@
 use super::*;
 use std::test::Fail;
 
-const LINES: [(&[&str], &str); 23] = [
+const LINES: [(&[&str], &str); 25] = [
     (&[], "allowed"),
     (&["gasday"], "allowed"),
     (&["gasday", "check", "allowed"], "allowed"),
     (&["out/another-name", "check", "allowed"], "allowed"),
+    (&["gasday", "check", "best"], "best"),
+    (&["gasday", "check", "cut"], "cut"),
     (&["gasday", "calendar"], "calendar"),
     (&["gasday", "--help"], "help"),
     (&["gasday", "-h"], "help"),
@@ -33,6 +35,8 @@ const LINES: [(&[&str], &str); 23] = [
 fn told(rt: &HostRuntime, words: &[&str]) -> Option<(&'static str, String)> {
     match command_of(rt.alloc(), words) {
         Ok(Command::CheckAllowed) => Some(("allowed", String::new(rt.alloc()))),
+        Ok(Command::CheckBest) => Some(("best", String::new(rt.alloc()))),
+        Ok(Command::CheckCut) => Some(("cut", String::new(rt.alloc()))),
         Ok(Command::Calendar) => Some(("calendar", String::new(rt.alloc()))),
         Err(UsageFault::Help(text)) => Some(("help", text)),
         Err(UsageFault::Usage(text)) => Some(("usage", text)),

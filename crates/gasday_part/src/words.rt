@@ -54,6 +54,10 @@ pub fn command_of<'a, S: AsStr>(alloc: Global, words: &'a [S]) -> Result<Command
         → IsCommand spec.CheckAllowed result }
     ensures check_allowed { spec.arguments (map S.text words.now)
         ≡ codes "check" ∷ codes "allowed" ∷ [] → IsCommand spec.CheckAllowed result }
+    ensures check_best { spec.arguments (map S.text words.now)
+        ≡ codes "check" ∷ codes "best" ∷ [] → IsCommand spec.CheckBest result }
+    ensures check_cut { spec.arguments (map S.text words.now)
+        ≡ codes "check" ∷ codes "cut" ∷ [] → IsCommand spec.CheckCut result }
     ensures calendar { spec.arguments (map S.text words.now) ≡ codes "calendar" ∷ []
         → IsCommand spec.Calendar result }
     ensures help { spec.arguments (map S.text words.now) ≡ codes "--help" ∷ [] → IsHelp result }

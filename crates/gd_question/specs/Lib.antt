@@ -3,3 +3,4 @@ pub mod Known
 pub mod InForce
 pub mod Rows
 pub mod Inside
+pub mod Placed

@@ -1,7 +1,8 @@
-ghost use Rattle.std.specs.Prelude.{◌≡◌, ◌≢◌, ℕ, ◌+◌, ◌*◌, ◌^◌, ◌<◌, ◌≤◌, ◌==◌, Some, None, Ok, Err, pos, ◌+ℤ◌, ◌<ℤ◌, length, get_or, slice_get, List, Option, Result, IfOk, IfSome, OnOk, OnErr, MatchResult, option_map, if◌then◌else◌};
+ghost use Rattle.std.specs.Prelude.{◌≡◌, ◌≢◌, ◌↔◌, IsTrue, ℕ, ◌+◌, ◌*◌, ◌^◌, ◌<◌, ◌≤◌, ◌==◌, Some, None, Ok, Err, pos, ◌+ℤ◌, ◌<ℤ◌, length, get_or, slice_get, List, Option, Result, IfOk, IfSome, OnOk, OnErr, MatchResult, option_map, if◌then◌else◌};
 ghost use Rattle.std.specs.List.{count_by};
 ghost use Rattle.gd_rules.specs.Question.{line, element as asked_element};
 ghost use Rattle.gd_question.specs.Known.{IsKnown, limit_of};
+ghost use Rattle.gd_question.specs.Placed.{IsPlaced};
 ghost use Rattle.gd_question.specs.Posed.{with_limit, after_capacity, checked_line, line_between, with_line, capacity_fault, posed};
 ghost use Rattle.gd_question.specs.Rows.{IsRow, ends_of_row, AreOwn};
 ghost use Rattle.gd_system.specs.Pipeline.{element_of, names_of};
@@ -14,7 +15,7 @@ use std::alloc::{AllocError, Global};
 use std::marker::Model;
 
 /// A line in memory: its ends stand for its route, which the tree tells.
-#[derive(Clone, Copy, Debug)]
+#[derive(Clone, Copy, Debug, PartialEq, Eq)]
 pub(crate) struct Row {
     ends: Ends,
     class: Class,
@@ -86,6 +87,18 @@ pub(crate) fn capacities_of(alloc: Global, system: &System) -> Result<Vec<Dth>, 
         }
     }
     Ok(limits)
+}
+
+fn same_capacities(a: &[Dth], b: &[Dth]) -> bool
+    ensures { IsTrue result ↔ (a.now ≡ b.now) }
+{
+    a == b
+}
+
+fn same_rows(a: &[Row], b: &[Row]) -> bool
+    ensures { IsTrue result ↔ (a.now ≡ b.now) }
+{
+    a == b
 }
 
 impl Question {
@@ -172,9 +185,46 @@ impl Question {
         Ok(())
     }
 
+    /// Another question of the same pipeline, capacities in force, lines, book, cycle and round. The only error is want of memory.
+    pub fn try_clone(&self, alloc: Global) -> Result<Question, AllocError>
+        ensures { IfOk result (λ copy. copy ≡ self.now) }
+    {
+        let system = self.system.try_clone(alloc)?;
+        let capacities = Vec::from_slice(alloc, &self.capacities)?;
+        let rows = Vec::from_slice(alloc, &self.rows)?;
+        Ok(Question {
+            system,
+            capacities,
+            rows,
+            book: self.book,
+            cycle: self.cycle,
+            round: self.round,
+        })
+    }
+
+    /// Whether both have the same pipeline, capacities in force, lines in the same order, book, cycle and round. Takes no memory.
+    pub fn same(&self, other: &Question) -> bool
+        ensures { IsTrue result ↔ (self.now ≡ other.now) }
+    {
+        self.system.same(&other.system)
+            && same_capacities(&self.capacities, &other.capacities)
+            && same_rows(&self.rows, &other.rows)
+            && self.book == other.book
+            && self.cycle == other.cycle
+            && self.round == other.round
+    }
+
     /// What holds of every question.
     pub fn known(&self)
         ensures { IsKnown self.now.asked }
+    {
+        self.system.known();
+        let _rows = &self.rows;
+    }
+
+    /// Where the elements of every question stand: segments first, and each on a place of the pipeline.
+    pub fn placed(&self)
+        ensures { IsPlaced self.now.pipeline self.now.asked }
     {
         self.system.known();
         let _rows = &self.rows;

@@ -52,11 +52,15 @@ fn system(rt: &impl Abort, alloc: Global) -> Result<System, BuildFault> {
     builder.finish().map_err(|(fault, _)| fault)
 }
 
-fn begun(rt: &impl Abort, alloc: Global) -> Result<QuestionBuilder, Fail> {
+fn begun_in(rt: &impl Abort, alloc: Global, round: u32) -> Result<QuestionBuilder, Fail> {
     let system = system(rt, alloc)?;
     let cycle = CycleNo::new(3).expect(rt, "a cycle");
-    let round = Round::new(7).expect(rt, "a round");
+    let round = Round::new(round).expect(rt, "a round");
     Ok(QuestionBuilder::new(alloc, system, name(rt, "DEMO"), cycle, round)?)
+}
+
+fn begun(rt: &impl Abort, alloc: Global) -> Result<QuestionBuilder, Fail> {
+    begun_in(rt, alloc, 7)
 }
 
 const UNKNOWN: LineFault = LineFault::Route(RouteFault::UnknownEnd);
@@ -141,4 +145,64 @@ fn capacities_in_force(rt: HostRuntime) -> Result<(), Fail> {
         assert_eq!(rt; limit.map(|quantity| quantity.get()), capacity);
     }
     Ok(())
+}
+
+fn add_lines(rt: &impl Abort, builder: &mut QuestionBuilder, count: u8) -> Result<(), LineFault> {
+    for _ in 0..count {
+        builder.line(name(rt, "R1"), name(rt, "D1"), 2, dth(rt, 10), dth(rt, 20))?;
+    }
+    Ok(())
+}
+
+// Of this round, with this capacity of S1 and so many lines.
+fn asked(
+    rt: &impl Abort,
+    alloc: Global,
+    round: u32,
+    capacity: u64,
+    lines: u8,
+) -> Result<Question, Fail> {
+    let mut builder = begun_in(rt, alloc, round)?;
+    builder.capacity(Element(0), dth(rt, capacity))?;
+    add_lines(rt, &mut builder, lines)?;
+    Ok(builder.finish())
+}
+
+#[test]
+fn a_clone_is_the_same(rt: HostRuntime) -> Result<(), Fail> {
+    let question = asked(&rt, rt.alloc(), 7, 60, 1)?;
+    let copy = question.try_clone(rt.alloc())?;
+    assert!(rt; question.same(&copy));
+    Ok(())
+}
+
+fn is_asked(
+    rt: &impl Abort,
+    question: &Question,
+    alloc: Global,
+    round: u32,
+    capacity: u64,
+    lines: u8,
+) -> Result<bool, Fail> {
+    let other = asked(rt, alloc, round, capacity, lines)?;
+    Ok(question.same(&other))
+}
+
+fn see_apart(rt: &impl Abort, question: &Question, alloc: Global) -> Result<(), Fail> {
+    for (round, capacity, lines, same) in [
+        (7, 60, 1, true),
+        (8, 60, 1, false),
+        (7, 61, 1, false),
+        (7, 60, 2, false),
+    ] {
+        let found = is_asked(rt, question, alloc, round, capacity, lines)?;
+        assert_eq!(rt; found, same, "{round} {capacity} {lines}");
+    }
+    Ok(())
+}
+
+#[test]
+fn questions_apart(rt: HostRuntime) -> Result<(), Fail> {
+    let question = asked(&rt, rt.alloc(), 7, 60, 1)?;
+    see_apart(&rt, &question, rt.alloc())
 }

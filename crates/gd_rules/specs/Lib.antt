@@ -13,3 +13,4 @@ pub mod Cut
 pub mod GasDay
 pub mod Bounds
 pub mod Lines
+pub mod Classes

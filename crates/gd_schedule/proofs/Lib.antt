@@ -1,5 +1,6 @@
 pub mod Parts
 pub mod Sizes
+pub mod Added
 pub mod Tenths
 pub mod Faults
 pub mod Compared

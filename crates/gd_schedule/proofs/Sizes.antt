@@ -75,6 +75,14 @@ sum_sized (suc n) b f h =
     rw e (sized_more n b (sum_int n f) (f n) (sum_sized n b f (λ i k. h i (omega arith))) (h n (omega arith)))
 
 -- What lines below the n-th bring to an element fits.
+-- What some of the lines bring, from one number on.
+pub part_sized : (q : Question) (schedule : List ℕ) (e from n : ℕ) → n ≤ 20000 → ((k : ℕ) → k < n → length (line q (from + k)).route ≤ 4095) → ((k : ℕ) → k < n → quantity schedule (from + k) ≤ 1000000000)
+    → IsSized (2 ^ 61) (sum_int n (λ k. crossing q (from + k) e *ℤ pos (quantity schedule (from + k))))
+part_sized q schedule e from n few short small =
+    let p = sum_sized n (4095 * 1000000000) (λ k. crossing q (from + k) e *ℤ pos (quantity schedule (from + k)))
+    (λ k h. times_sized 4095 1000000000 (quantity schedule (from + k)) (crossing q (from + k) e) (crossing_sized (line q (from + k)) e (element q e) (short k h)) (small k h)) in
+    sized_wider (n * (4095 * 1000000000)) (2 ^ 61) (sum_int n (λ k. crossing q (from + k) e *ℤ pos (quantity schedule (from + k)))) (omega arith) p
+
 pub load_sized : (q : Question) (schedule : List ℕ) (e n : ℕ) → n ≤ 20000 → ((i : ℕ) → i < n → length (line q i).route ≤ 4095) → ((i : ℕ) → i < n → quantity schedule i ≤ 1000000000)
     → IsSized (2 ^ 61) (sum_int n (λ i. crossing q i e *ℤ pos (quantity schedule i)))
 load_sized q schedule e n few short small =

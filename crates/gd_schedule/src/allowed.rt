@@ -5,7 +5,8 @@ ghost use Rattle.gd_rules.specs.Question.{element as asked_element};
 ghost use Rattle.gd_rules.specs.Schedule.{IsAllowed};
 ghost use Rattle.gd_question.specs.Known.{limit_of};
 ghost use Rattle.gd_schedule.specs.First.{FoundFirst};
-ghost use Rattle.gd_schedule.specs.Exact.{KeepsFloor, KeepsCeiling, Explains, WithinLimit, IsBalanced, FaultsAreBroken};
+ghost use Rattle.gd_schedule.specs.Exact.{KeepsFloor, KeepsCeiling, Bounded, Explains, WithinLimit, IsBalanced, FaultsAreBroken};
+ghost use Rattle.gd_schedule.specs.Table.{IsTable};
 
 use crate::loads::load_table;
 use crate::{Broken, Schedule};
@@ -67,12 +68,10 @@ fn first_unbalanced(question: &Question, loads: &[i64]) -> Option<usize>
 }
 
 impl Schedule {
-    /// Passes exactly where the schedule is allowed, else says what is wrong first.
-    ///
-    /// Allowed means: there is one quantity for each line, between its floor and its ceiling; no segment or point is loaded above its capacity; and from each pool as much is taken as is brought.
-    pub fn allowed(&self, alloc: Global, question: &Question) -> Result<(), Broken>
-        ensures passes { OnOk result (IsAllowed question.now.asked self.now) }
-        ensures fault { IfErr result (Explains question.now.asked self.now) }
+    /// Checks that there is one quantity for each line, between its floor and its ceiling. It tells the first fault of these kinds, and takes no memory.
+    pub fn bounded(&self, question: &Question) -> Result<(), Broken>
+        ensures passes { OnOk result (Bounded question.now.asked self.now) }
+        ensures fault { IfErr result (λ broken. (broken ≢ Broken.OutOfMemory) × Explains question.now.asked self.now broken) }
     {
         if self.len() != question.line_count() {
             return Err(Broken::Shape);
@@ -83,14 +82,40 @@ impl Schedule {
         if let Some(line) = first_above(question, self) {
             return Err(Broken::AboveCeiling(line));
         }
+        Ok(())
+    }
+
+    /// Checks the loads of a schedule whose quantities are right: none is above a capacity, and each pool is balanced. It is handed the table that [`load_table`] gives, and takes no memory.
+    pub fn carried(&self, question: &Question, loads: &[i64]) -> Result<(), Broken>
+        requires bounded { Bounded question.now.asked self.now }
+        requires table { IsTable question.now.asked self.now loads.now }
+        ensures passes { OnOk result (IsAllowed question.now.asked self.now) }
+        ensures fault { IfErr result (λ broken. (broken ≢ Broken.OutOfMemory) × Explains question.now.asked self.now broken) }
+    {
+        if let Some(element) = first_over(question, loads) {
+            return Err(Broken::OverCapacity(Element(element)));
+        }
+        if let Some(element) = first_unbalanced(question, loads) {
+            return Err(Broken::Unbalanced(Element(element)));
+        }
+        Ok(())
+    }
+
+    /// Passes exactly where the schedule is allowed, else says what is wrong first.
+    ///
+    /// Allowed means: there is one quantity for each line, between its floor and its ceiling; no segment or point is loaded above its capacity; and from each pool as much is taken as is brought.
+    pub fn allowed(&self, alloc: Global, question: &Question) -> Result<(), Broken>
+        ensures passes { OnOk result (IsAllowed question.now.asked self.now) }
+        ensures fault { IfErr result (Explains question.now.asked self.now) }
+    {
+        if let Err(broken) = self.bounded(question) {
+            return Err(broken);
+        }
         let Ok(loads) = load_table(alloc, question, self) else {
             return Err(Broken::OutOfMemory);
         };
-        if let Some(element) = first_over(question, &loads) {
-            return Err(Broken::OverCapacity(Element(element)));
-        }
-        if let Some(element) = first_unbalanced(question, &loads) {
-            return Err(Broken::Unbalanced(Element(element)));
+        if let Err(broken) = self.carried(question, &loads) {
+            return Err(broken);
         }
         Ok(())
     }

@@ -1,11 +1,11 @@
 //! The loads of elements: what the lines bring to each, in dekatherms a gas day.
 
-ghost use Rattle.std.specs.Prelude.{◌≡◌, ℕ, pos, ◌+ℤ◌, ◌*ℤ◌, ◌≤◌, ◌<◌, ◌^◌, length, get_or, IfOk, ◌==◌, if◌then◌else◌, MatchOption, ◌⊎◌, ◌≢◌};
+ghost use Rattle.std.specs.Prelude.{◌≡◌, ℕ, pos, ◌+◌, ◌+ℤ◌, ◌*ℤ◌, ◌≤◌, ◌<◌, ◌^◌, length, get_or, IfOk, ◌==◌, if◌then◌else◌, MatchOption, ◌⊎◌, ◌≢◌};
 ghost use Rattle.gd_rules.specs.Schedule.{quantity, load as load_of};
 ghost use Rattle.gd_rules.specs.Question.{crossing};
 ghost use Rattle.gd_system.specs.Pipeline.{element_of};
 ghost use Rattle.gd_schedule.specs.Sizes.{IsSized};
-ghost use Rattle.gd_schedule.specs.Table.{IsTable, sends};
+ghost use Rattle.gd_schedule.specs.Table.{IsPart, IsTable, sends};
 
 use crate::Schedule;
 use gd_question::{Element, Part, Question};
@@ -52,6 +52,30 @@ fn add_line(question: &Question, line: usize, quantity: Dth, table: &mut [i64])
     add_at(table, question.dest(line).0, amount as i64);
 }
 
+/// What some of the lines bring to each element by number: so many of them, from one number on. The only error is want of memory.
+///
+/// It asks for one quantity for each line. The parts of all lines add up to the loads.
+pub fn load_part(
+    alloc: Global,
+    question: &Question,
+    schedule: &Schedule,
+    from: usize,
+    count: usize,
+) -> Result<Vec<i64>, AllocError>
+    requires shape { length schedule.now ≡ length question.now.asked.lines }
+    requires known { from + count ≤ length question.now.asked.lines }
+    ensures { IfOk result (λ table. IsPart question.now.asked schedule.now from count table.items) }
+{
+    question.known();
+    schedule.known();
+    let mut table = vec![in alloc; 0i64; question.element_count()]?;
+    for k in 0..count {
+        let line = from + k;
+        add_line(question, line, schedule.quantity(line), &mut table);
+    }
+    Ok(table)
+}
+
 /// The loads of all elements by number, in dekatherms a gas day. The only error is want of memory.
 ///
 /// It asks for one quantity for each line.
@@ -63,13 +87,7 @@ pub fn load_table(
     requires { length schedule.now ≡ length question.now.asked.lines }
     ensures { IfOk result (λ table. IsTable question.now.asked schedule.now table.items) }
 {
-    question.known();
-    schedule.known();
-    let mut table = vec![in alloc; 0i64; question.element_count()]?;
-    for line in 0..question.line_count() {
-        add_line(question, line, schedule.quantity(line), &mut table);
-    }
-    Ok(table)
+    load_part(alloc, question, schedule, 0, question.line_count())
 }
 
 /// How often a line crosses an element: 1 where it passes or enters it, -1 where it leaves it as a pool, else 0.

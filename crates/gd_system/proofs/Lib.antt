@@ -6,3 +6,4 @@ pub mod Slots
 pub mod Made
 pub mod Told
 mod Rows
+pub mod Same

@@ -14,7 +14,7 @@ pub struct Element(pub usize);
 pub struct PlaceId(pub usize);
 
 /// A point where gas is received or delivered.
-#[derive(Clone, Copy, Debug)]
+#[derive(Clone, Copy, Debug, PartialEq, Eq)]
 pub struct Point {
     pub kind: Kind,
     pub place: PlaceId,
@@ -24,7 +24,7 @@ pub struct Point {
 }
 
 /// A pool: lines bring gas into it and take gas out of it.
-#[derive(Clone, Copy, Debug)]
+#[derive(Clone, Copy, Debug, PartialEq, Eq)]
 pub struct Pool {
     pub place: PlaceId,
     pub operator: Name,
@@ -88,7 +88,7 @@ impl Part {
 }
 
 /// The two ends of a line, and the places that they hang on.
-#[derive(Clone, Copy, Debug)]
+#[derive(Clone, Copy, Debug, PartialEq, Eq)]
 pub struct Ends {
     pub origin: Element,
     pub dest: Element,

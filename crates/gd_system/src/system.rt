@@ -1,4 +1,4 @@
-ghost use Rattle.std.specs.Prelude.{◌≡◌, ℕ, ◌<◌, ◌≤◌, length, Some, None, IfSome, IfOk, slice_get};
+ghost use Rattle.std.specs.Prelude.{◌≡◌, ◌↔◌, IsTrue, ℕ, ◌<◌, ◌≤◌, length, Some, None, IfSome, IfOk, slice_get};
 ghost use Rattle.std.specs.Option.{option_map};
 ghost use Rattle.gd_rules.specs.Tree.{IsTree};
 ghost use Rattle.gd_system.specs.Pipeline.{elements_of, names_of, element_of, operator_at, number_of, element_number};
@@ -10,6 +10,7 @@ use crate::{Element, Kind, Part, PlaceId, Point, Pool};
 use gd_tree::Tree;
 use gd_units::Name;
 use indexmap::{IndexMap, IndexSet};
+use std::alloc::{AllocError, Global};
 use std::marker::Model;
 
 /// A pipeline by name: the tree of its segments, and the points and pools at its places.
@@ -45,6 +46,24 @@ enum Row {
     Pool(Name, Pool),
 }
 
+fn same_names(a: &IndexSet<Name>, b: &IndexSet<Name>) -> bool
+    ensures { IsTrue result ↔ (a.now.keys ≡ b.now.keys) }
+{
+    a.as_slice() == b.as_slice()
+}
+
+fn same_points(a: &IndexMap<Name, Point>, b: &IndexMap<Name, Point>) -> bool
+    ensures { IsTrue result ↔ (a.now.entries ≡ b.now.entries) }
+{
+    a.as_slice() == b.as_slice()
+}
+
+fn same_pools(a: &IndexMap<Name, Pool>, b: &IndexMap<Name, Pool>) -> bool
+    ensures { IsTrue result ↔ (a.now.entries ≡ b.now.entries) }
+{
+    a.as_slice() == b.as_slice()
+}
+
 impl System {
     /// What holds of every system.
     pub fn known(&self)
@@ -52,6 +71,35 @@ impl System {
         ensures tree { IsTree (length self.now.places) (elements_of self.now) }
     {
         let _ = &self.tree;
+    }
+
+    /// Another system of the same places and elements. The only error is want of memory.
+    pub fn try_clone(&self, alloc: Global) -> Result<System, AllocError>
+        ensures { IfOk result (λ copy. copy ≡ self.now) }
+    {
+        let places = self.places.clone()?;
+        let segments = self.segments.clone()?;
+        let tree = self.tree.try_clone(alloc)?;
+        let points = self.points.clone()?;
+        let pools = self.pools.clone()?;
+        Ok(System {
+            places,
+            segments,
+            tree,
+            points,
+            pools,
+        })
+    }
+
+    /// Whether both have the same places, segments, points and pools, in the same order and with the same capacities.
+    pub fn same(&self, other: &System) -> bool
+        ensures { IsTrue result ↔ (self.now ≡ other.now) }
+    {
+        same_names(&self.places, &other.places)
+            && same_names(&self.segments, &other.segments)
+            && self.tree.same(&other.tree)
+            && same_points(&self.points, &other.points)
+            && same_pools(&self.pools, &other.pools)
     }
 
     /// The number of places: one more than segments.

@@ -279,3 +279,60 @@ fn too_many(rt: HostRuntime) -> Result<(), Fail> {
     assert_eq!(rt; finished(builder)?.element_count(), 8447);
     Ok(())
 }
+
+// A segment and a point of this capacity, with this name and this operator of the point.
+fn small(
+    rt: &impl Abort,
+    alloc: Global,
+    text: &str,
+    operator: &str,
+    capacity: u64,
+) -> Result<System, BuildFault> {
+    let mut builder = SystemBuilder::new(alloc);
+    let place = name(rt, "A");
+    let capacity = dth(rt, capacity);
+    let operator = name(rt, operator);
+    builder.segment(name(rt, "AB"), place, name(rt, "B"), capacity)?;
+    builder.point(name(rt, text), Kind::Receipt, place, operator, capacity)?;
+    finished(builder)
+}
+
+#[test]
+fn a_clone_is_the_same(rt: HostRuntime) -> Result<(), Fail> {
+    let system = small(&rt, rt.alloc(), "RA", "OP", 70)?;
+    let copy = system.try_clone(rt.alloc())?;
+    assert!(rt; system.same(&copy));
+    Ok(())
+}
+
+fn is_small(
+    rt: &impl Abort,
+    system: &System,
+    alloc: Global,
+    text: &str,
+    operator: &str,
+    capacity: u64,
+) -> Result<bool, BuildFault> {
+    let other = small(rt, alloc, text, operator, capacity)?;
+    Ok(system.same(&other))
+}
+
+fn see_apart(rt: &impl Abort, system: &System, alloc: Global) -> Result<(), BuildFault> {
+    for (text, operator, capacity, same) in [
+        ("RA", "OP", 70, true),
+        ("RB", "OP", 70, false),
+        ("RA", "OQ", 70, false),
+        ("RA", "OP", 71, false),
+    ] {
+        let found = is_small(rt, system, alloc, text, operator, capacity)?;
+        assert_eq!(rt; found, same, "{text} {operator} {capacity}");
+    }
+    Ok(())
+}
+
+#[test]
+fn systems_apart(rt: HostRuntime) -> Result<(), Fail> {
+    let system = small(&rt, rt.alloc(), "RA", "OP", 70)?;
+    see_apart(&rt, &system, rt.alloc())?;
+    Ok(())
+}

@@ -1,3 +1,4 @@
 pub mod Building
 pub mod Totals
 pub mod CycleRows
+pub mod PriceLists

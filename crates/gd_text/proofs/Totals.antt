@@ -15,10 +15,10 @@ unfolding totals_to
 totals-more q x n = ap (totals_to q x) (add-one n)
 
 -- one total more
-pub one_more : (q : Question) (x : List ℕ) (n class total : ℕ) (old new : List Reply) → class ≡ n + 1 → total ≡ class_total q x class
-    → old ≡ reply.Allowed ∷ totals_to q x n → new ≡ old ++ reply.Total class total ∷ [] → new ≡ reply.Allowed ∷ totals_to q x (n + 1)
-one_more q x n class total old new c t o e =
+pub one_more : (good : Reply) (q : Question) (x : List ℕ) (n class total : ℕ) (old new : List Reply) → class ≡ n + 1 → total ≡ class_total q x class
+    → old ≡ good ∷ totals_to q x n → new ≡ old ++ reply.Total class total ∷ [] → new ≡ good ∷ totals_to q x (n + 1)
+one_more good q x n class total old new c t o e =
     e ∙ ap (λ (l : List Reply). l ++ reply.Total class total ∷ []) o
-    ∙ ap (λ (v : ℕ). (reply.Allowed ∷ totals_to q x n) ++ reply.Total class v ∷ []) t
-    ∙ ap (λ (v : ℕ). (reply.Allowed ∷ totals_to q x n) ++ reply.Total v (class_total q x v) ∷ []) c
-    ∙ ap (λ (l : List Reply). reply.Allowed ∷ l) (sym (totals-more q x n))
+    ∙ ap (λ (v : ℕ). (good ∷ totals_to q x n) ++ reply.Total class v ∷ []) t
+    ∙ ap (λ (v : ℕ). (good ∷ totals_to q x n) ++ reply.Total v (class_total q x v) ∷ []) c
+    ∙ ap (λ (l : List Reply). good ∷ l) (sym (totals-more q x n))

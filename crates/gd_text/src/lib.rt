@@ -2,11 +2,15 @@
 #![tactic(auto)]
 
 mod calendar;
+mod members;
+mod prices;
 mod replies;
 mod reply;
 mod values;
 
 pub use calendar::{calendar_replies, day_of};
-pub use replies::{allowed_replies, broken_reply};
+pub use members::{MemberTable, members_of};
+pub use prices::{PriceTable, prices_of};
+pub use replies::{allowed_replies, best_replies, broken_reply, cut_fault_reply, fault_reply};
 pub use reply::{InputFault, Reply};
 pub use values::{Asked, asked_of};

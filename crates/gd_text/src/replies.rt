@@ -1,9 +1,13 @@
-ghost use Rattle.std.specs.Prelude.{◌≡◌, ◌≢◌, ◌<◌, ◌≤◌, ℕ, length, IfOk, IfSome, IfNone, MatchOption, OnOk, ◌++◌, ◌∷◌, [], ◌-◌, get_or};
+ghost use Rattle.std.specs.Prelude.{◌≡◌, ◌≢◌, ◌<◌, ◌≤◌, ℕ, length, IfOk, IfSome, IfNone, MatchOption, OnOk, ◌++◌, ◌∷◌, [], ◌-◌, get_or, map};
 ghost use Rattle.gd_schedule.specs.Exact.{Explains};
 ghost use Rattle.gd_schedule.specs.declared.Broken.TheVariants.{OutOfMemory};
+ghost use Rattle.gd_cost.specs.Parts.{class_words};
+ghost use Rattle.gd_certificate.specs.InForce.{ExplainsTariff};
 ghost use Rattle.gd_text.specs.Replies as spec;
 
 use crate::reply::Reply;
+use gd_certificate::{CertFault, CutFault, Prices};
+use gd_cost::Tariff;
 use gd_question::Question;
 use gd_schedule::{Broken, Schedule, Totals};
 use gd_units::Class;
@@ -29,6 +33,32 @@ fn push_total(rows: &mut Vec<Reply>, totals: &Totals, class: Class) -> Result<()
     Ok(())
 }
 
+// How good a schedule is, and a total for each class from 1 on.
+fn good_replies(
+    alloc: Global,
+    good: Reply,
+    question: &Question,
+    schedule: &Schedule,
+) -> Result<Vec<Reply>, AllocError>
+    requires { length schedule.now ≡ length question.now.asked.lines }
+    ensures { IfOk result (λ rows. rows.items ≡ spec.good_rows good question.now.asked schedule.now) }
+{
+    let totals = match schedule.totals(question) {
+        Some(totals) => totals,
+        None => unreachable!(),
+    };
+    let mut rows = Vec::new(alloc);
+    rows.push(good)?;
+    let last = last_class(question);
+    'classes: for at in 0..last {
+        match Class::new(at + 1) {
+            Some(class) => push_total(&mut rows, &totals, class)?,
+            None => unreachable!(),
+        }
+    }
+    Ok(rows)
+}
+
 /// The rows of an allowed schedule: `allowed`, and a total for each class from 1 on.
 pub fn allowed_replies(
     alloc: Global,
@@ -38,20 +68,19 @@ pub fn allowed_replies(
     requires { length schedule.now ≡ length question.now.asked.lines }
     ensures { IfOk result (λ rows. rows.items ≡ spec.allowed_rows question.now.asked schedule.now) }
 {
-    let totals = match schedule.totals(question) {
-        Some(totals) => totals,
-        None => unreachable!(),
-    };
-    let mut rows = Vec::new(alloc);
-    rows.push(Reply::Allowed)?;
-    let last = last_class(question);
-    'classes: for at in 0..last {
-        match Class::new(at + 1) {
-            Some(class) => push_total(&mut rows, &totals, class)?,
-            None => unreachable!(),
-        }
-    }
-    Ok(rows)
+    good_replies(alloc, Reply::Allowed, question, schedule)
+}
+
+/// The rows of a best schedule: `best`, and a total for each class from 1 on.
+pub fn best_replies(
+    alloc: Global,
+    question: &Question,
+    schedule: &Schedule,
+) -> Result<Vec<Reply>, AllocError>
+    requires { length schedule.now ≡ length question.now.asked.lines }
+    ensures { IfOk result (λ rows. rows.items ≡ spec.best_rows question.now.asked schedule.now) }
+{
+    good_replies(alloc, Reply::Best, question, schedule)
 }
 
 /// The row of a schedule that isn't allowed; `None` where memory ran out before that was known.
@@ -68,5 +97,39 @@ pub fn broken_reply(question: &Question, schedule: &Schedule, broken: Broken) ->
         Broken::OverCapacity(element) => Some(Reply::OverCapacity(question.name(element))),
         Broken::Unbalanced(element) => Some(Reply::Unbalanced(question.name(element))),
         Broken::OutOfMemory => None,
+    }
+}
+
+/// The row of a certificate that isn't right; `None` where memory ran out before that was known.
+pub fn fault_reply(
+    question: &Question,
+    schedule: &Schedule,
+    prices: &Prices<Tariff>,
+    fault: CertFault,
+) -> Option<Reply>
+    requires { ExplainsTariff question.now.asked schedule.now (map class_words prices.now) fault }
+    ensures told { IfSome result (spec.TellsFault question.now fault) }
+    ensures memory { IfNone result (fault ≡ CertFault.OutOfMemory) }
+{
+    question.known();
+    let _ = prices;
+    match fault {
+        CertFault::Shape => Some(Reply::Shape),
+        CertFault::Broken(broken) => broken_reply(question, schedule, broken),
+        CertFault::PriceTooLarge(element) => Some(Reply::PriceTooLarge(question.name(element))),
+        CertFault::PriceOnSlack(element) => Some(Reply::PriceOnSlack(question.name(element))),
+        CertFault::Underfilled(line) => Some(Reply::Underfilled(line as u64 + 1)),
+        CertFault::Overfilled(line) => Some(Reply::Overfilled(line as u64 + 1)),
+        CertFault::OutOfMemory => None,
+    }
+}
+
+/// The row of a set that is no cut.
+pub fn cut_fault_reply(fault: CutFault) -> Reply
+    ensures { result ≡ spec.cut_fault_reply fault }
+{
+    match fault {
+        CutFault::Shape => Reply::Shape,
+        CutFault::NotCut => Reply::NotCut,
     }
 }

@@ -32,6 +32,20 @@ pub enum Reply {
     OverCapacity(Name),
     /// This pool is the first out of balance.
     Unbalanced(Name),
+    /// The schedule is best.
+    Best,
+    /// A number of this element's price is the first that is too large.
+    PriceTooLarge(Name),
+    /// The price of this segment or point is the first that is wrong at its load.
+    PriceOnSlack(Name),
+    /// This line, counted from 1, is the first that would gain by its next dekatherm.
+    Underfilled(u64),
+    /// This line, counted from 1, is the first that loses by its last dekatherm.
+    Overfilled(u64),
+    /// The set is a cut, with this excess in dekatherms a gas day.
+    Cut(u64),
+    /// The set is no cut.
+    NotCut,
     /// The total of a class, in dekatherms a gas day.
     Total(u64, u64),
     /// The date is none of the gas days that there are.
@@ -84,6 +98,13 @@ impl fmt::Display for Reply {
             Reply::AboveCeiling(line) => write!(f, "broken,AboveCeiling,{line},,,,,\n"),
             Reply::OverCapacity(element) => write!(f, "broken,OverCapacity,{element},,,,,\n"),
             Reply::Unbalanced(element) => write!(f, "broken,Unbalanced,{element},,,,,\n"),
+            Reply::Best => f.write_str("best,,,,,,,\n"),
+            Reply::PriceTooLarge(element) => write!(f, "broken,PriceTooLarge,{element},,,,,\n"),
+            Reply::PriceOnSlack(element) => write!(f, "broken,PriceOnSlack,{element},,,,,\n"),
+            Reply::Underfilled(line) => write!(f, "broken,Underfilled,{line},,,,,\n"),
+            Reply::Overfilled(line) => write!(f, "broken,Overfilled,{line},,,,,\n"),
+            Reply::Cut(excess) => write!(f, "cut,{excess},,,,,,\n"),
+            Reply::NotCut => f.write_str("broken,NotCut,,,,,,\n"),
             Reply::Total(class, quantity) => write!(f, "total,{class},{quantity},,,,,\n"),
             Reply::OutOfRange => f.write_str("refused,calendar,1,OutOfRange,,,,\n"),
             Reply::BadZone => f.write_str("refused,calendar,2,BadZone,,,,\n"),

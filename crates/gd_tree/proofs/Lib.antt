@@ -8,3 +8,4 @@ pub mod Adds
 pub mod Agree
 pub mod Along
 mod Rows
+pub mod Same

@@ -31,7 +31,7 @@ pub fn routes_are_short()
 {}
 
 /// A one-way segment between two places, with its capacity in dekatherms a gas day.
-#[derive(Clone, Copy, Debug, Drop)]
+#[derive(Clone, Copy, Debug, PartialEq, Eq, Drop)]
 pub struct Segment {
     pub from: u32,
     pub to: u32,
@@ -98,6 +98,21 @@ impl Tree {
         ensures joins { Joins at (segment result.from result.to result.capacity) }
     {
         self.segments[at]
+    }
+
+    /// Another tree of the same segments. The only error is want of memory.
+    pub fn try_clone(&self, alloc: Global) -> Result<Tree, AllocError>
+        ensures { IfOk result (λ copy. copy ≡ self.now) }
+    {
+        let segments = Vec::from_slice(alloc, &self.segments)?;
+        Ok(Tree { segments })
+    }
+
+    /// Whether both have the same segments with the same capacities.
+    pub fn same(&self, other: &Tree) -> bool
+        ensures { IsTrue result ↔ (self.now ≡ other.now) }
+    {
+        self.segments.as_slice() == other.segments.as_slice()
     }
 
     /// Joins a new place to an earlier one.

@@ -31,3 +31,13 @@ pub returns-clause-help_of_calendar : goal.returns-clause-help_of_calendar
 returns-clause-help_of_calendar g c h =
     let words = map g.S.AsStr.text c.args.words.now in
     forms.is_help _ words (forms.help_of_calendar words h) c.command_by_clap.ensures.faultless c.command_by_clap.ensures.faults
+
+pub returns-clause-check_best : goal.returns-clause-check_best
+returns-clause-check_best g c h =
+    let words = map g.S.AsStr.text c.args.words.now in
+    forms.is_command _ _ _ _ (forms.check_best words h) (forms.check_best_is words h) c.command_by_clap.ensures.meaning c.command_by_clap.ensures.taken
+
+pub returns-clause-check_cut : goal.returns-clause-check_cut
+returns-clause-check_cut g c h =
+    let words = map g.S.AsStr.text c.args.words.now in
+    forms.is_command _ _ _ _ (forms.check_cut words h) (forms.check_cut_is words h) c.command_by_clap.ensures.meaning c.command_by_clap.ensures.taken

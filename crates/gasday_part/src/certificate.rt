@@ -1,0 +1,70 @@
+//! What is told of prices and of cuts.
+
+ghost use Rattle.std.specs.Prelude.{◌≡◌, IfOk};
+ghost use Rattle.gd_text.specs.Members.{members_of as set_of};
+ghost use Rattle.gd_text.specs.Prices.{prices_of as table_of};
+ghost use Rattle.gasday_part.specs.Answers as spec;
+ghost use Rattle.gasday_part.specs.AnswerSeen.{answer_seen};
+
+use crate::answer::{Answer, of_fault, of_one};
+use gd_certificate::{Cut, Prices, check, check_cut};
+use gd_cost::Tariff;
+use gd_question::Question;
+use gd_text::{Asked, Reply, best_replies, cut_fault_reply, fault_reply, members_of, prices_of};
+use gd_text_part::{Row, TextFault};
+use std::alloc::{AllocError, Global};
+
+// Whether prices show the schedule best.
+fn check_prices(alloc: Global, asked: &Asked, prices: &Prices<Tariff>) -> Result<Answer, AllocError>
+    ensures { IfOk result (λ a. spec.ChecksPrices asked.now.question asked.now.schedule prices.now (answer_seen a)) }
+{
+    match check(alloc, &asked.question, &asked.schedule, prices) {
+        Ok(()) => {
+            let replies = best_replies(alloc, &asked.question, &asked.schedule)?;
+            Ok(Answer { replies, status: 0 })
+        }
+        Err(fault) => match fault_reply(&asked.question, &asked.schedule, prices, fault) {
+            Some(reply) => of_one(alloc, reply, 1),
+            None => Err(AllocError),
+        },
+    }
+}
+
+/// Whether the prices of a text show its schedule best.
+pub(crate) fn tell_best(alloc: Global, asked: &Asked, rows: &[Row]) -> Result<Answer, AllocError>
+    ensures { IfOk result (λ a. spec.ChecksTable asked.now.question asked.now.schedule (table_of rows.now asked.now.question.pipeline) (answer_seen a)) }
+{
+    match prices_of(alloc, rows, asked.question.system()) {
+        Ok(table) => {
+            let prices = table.prices(alloc)?;
+            check_prices(alloc, asked, &prices)
+        }
+        Err(TextFault::OutOfMemory) => Err(AllocError),
+        Err(fault) => of_fault(alloc, fault),
+    }
+}
+
+// Whether a set shows that no schedule is allowed.
+fn check_set(alloc: Global, question: &Question, cut: &Cut) -> Result<Answer, AllocError>
+    ensures { IfOk result (λ a. spec.ChecksSet question.now cut.now (answer_seen a)) }
+{
+    match check_cut(question, cut) {
+        Ok(excess) => of_one(alloc, Reply::Cut(excess), 0),
+        Err(fault) => of_one(alloc, cut_fault_reply(fault), 1),
+    }
+}
+
+/// Whether the set of a text shows that no schedule is allowed.
+pub(crate) fn tell_cut(
+    alloc: Global,
+    question: &Question,
+    rows: &[Row],
+) -> Result<Answer, AllocError>
+    ensures { IfOk result (λ a. spec.ChecksMembers question.now (set_of rows.now question.now.pipeline) (answer_seen a)) }
+{
+    match members_of(alloc, rows, question.system()) {
+        Ok(table) => check_set(alloc, question, &table.cut()),
+        Err(TextFault::OutOfMemory) => Err(AllocError),
+        Err(fault) => of_fault(alloc, fault),
+    }
+}

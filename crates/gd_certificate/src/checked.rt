@@ -1,0 +1,111 @@
+//! Certificates that passed the check.
+
+ghost use Rattle.std.specs.Prelude.{◌≡◌, map, OnOk, IfOk, IfErr};
+ghost use Rattle.gd_rules.specs.Schedule.{IsAllowed};
+ghost use Rattle.gd_rules.specs.Spread.{IsBest};
+ghost use Rattle.gd_rules.specs.Tariff.{IsPricedByTariff};
+ghost use Rattle.gd_cost.specs.Parts.{class_words};
+ghost use Rattle.gd_certificate.specs.Checked.{IsRight};
+ghost use Rattle.gd_certificate.specs.InForce.{ExplainsTariff};
+
+use crate::par::check_together;
+use crate::{CertFault, Prices};
+use gd_cost::Tariff;
+use gd_question::Question;
+use gd_schedule::Schedule;
+use std::alloc::Global;
+use std::marker::Model;
+use std::thread::Threads;
+
+/// A question with a schedule and prices that passed the check, by the tariff in force. [`check_par`] alone makes one.
+///
+/// A contract sees the three.
+#[derive(Drop)]
+pub struct Checked {
+    question: Question,
+    schedule: Schedule,
+    prices: Prices<Tariff>,
+}
+
+impl Model for Checked {
+    ghost use Rattle.gd_certificate.specs.Checked.{Certificate, IsRight};
+
+    ghost Value = { Certificate };
+
+    ghost view = { λ c. record { question = c.question; schedule = c.schedule; prices = c.prices } };
+
+    ghost invariant = { λ c. IsRight (record { question = c.question; schedule = c.schedule; prices = c.prices }) };
+}
+
+impl Checked {
+    /// What holds of every value: the schedule is allowed, the prices are right, and so no allowed schedule is better.
+    pub fn known(&self)
+        ensures right { IsRight self.now }
+        ensures best { IsBest self.now.question.asked self.now.schedule }
+    {
+        let _question = &self.question;
+    }
+
+    /// The question that the schedule answers.
+    pub fn question(&self) -> &Question
+        ensures { result.now ≡ self.now.question }
+    {
+        &self.question
+    }
+
+    /// The schedule, which is best.
+    pub fn schedule(&self) -> &Schedule
+        ensures { result.now ≡ self.now.schedule }
+    {
+        &self.schedule
+    }
+
+    /// The prices that show it.
+    pub fn prices(&self) -> &Prices<Tariff>
+        ensures { result.now ≡ self.now.prices }
+    {
+        &self.prices
+    }
+}
+
+/// The check by several threads at the tariff in force, with the contract of `check`.
+fn check_in_force(
+    rt: &(impl Threads + Sync),
+    alloc: Global,
+    question: &Question,
+    schedule: &Schedule,
+    prices: &Prices<Tariff>,
+) -> Result<(), CertFault>
+    ensures passes { OnOk result (IsAllowed question.now.asked schedule.now × IsPricedByTariff question.now.asked schedule.now (map class_words prices.now)) }
+    ensures fault { IfErr result (ExplainsTariff question.now.asked schedule.now (map class_words prices.now)) }
+    ensures exact { IsAllowed question.now.asked schedule.now → IsPricedByTariff question.now.asked schedule.now (map class_words prices.now) → IfErr result (λ told. told ≡ CertFault.OutOfMemory) }
+{
+    check_together(rt, alloc, question, schedule, prices)
+}
+
+/// Checks by several threads that prices by the tariff in force show a schedule best, as `check` does, and keeps what passed.
+///
+/// A certificate that does not pass is handed back with what is first wrong.
+pub fn check_par(
+    rt: &(impl Threads + Sync),
+    alloc: Global,
+    question: Question,
+    schedule: Schedule,
+    prices: Prices<Tariff>,
+) -> Result<Checked, (CertFault, Question, Schedule, Prices<Tariff>)>
+    ensures passes { IfOk result (λ checked. checked ≡ record { question = question; schedule = schedule; prices = prices }) }
+    ensures right { IfOk result IsRight }
+    ensures fault { IfErr result (λ refused. ExplainsTariff question.asked schedule (map class_words prices) refused.0) }
+    ensures kept { IfErr result (λ refused. (refused.1 ≡ question) × (refused.2 ≡ schedule) × (refused.3 ≡ prices)) }
+    // Where all is right nothing but want of memory is told.
+    ensures exact { IsAllowed question.asked schedule → IsPricedByTariff question.asked schedule (map class_words prices) → IfErr result (λ refused. refused.0 ≡ CertFault.OutOfMemory) }
+{
+    match check_in_force(rt, alloc, &question, &schedule, &prices) {
+        Ok(()) => Ok(Checked {
+            question,
+            schedule,
+            prices,
+        }),
+        Err(fault) => Err((fault, question, schedule, prices)),
+    }
+}

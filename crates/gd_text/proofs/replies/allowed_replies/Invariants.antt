@@ -1,8 +1,0 @@
-use Rattle.std.proofs.Common.{◌≡◌, ◌∷◌}
-use Rattle.gd_text.specs.Replies.{totals_to}
-use Rattle.gd_text.specs.declared.reply.Reply.TheVariants as reply
-use Rattle.gd_text.proofs.replies.allowed_replies.Given as goal
-
--- The totals of the classes so far.
-abbrev pub invariant-classes : goal.invariant-classes
-invariant-classes l = l.rows.items ≡ reply.Allowed ∷ totals_to l.question.asked l.schedule l.at
