@@ -2,8 +2,11 @@
 """Writes a question of the largest size to standard output, as a text that
 `gasday check allowed` answers with `allowed`.
 
-    bench/generate.py deep|star|branching
+    bench/generate.py deep|star|branching [--best]
         [--lines N] [--places N] [--points N] [--pools N] [--seed S]
+
+With --best each line has its ceiling, and each element has a price row for
+each class, of words 0: `gasday check best` answers with `best`.
 
 deep        one chain: each segment goes on where the one before it ended.
             Receipt points stand in the first eighth and delivery points in
@@ -160,11 +163,11 @@ def capacity_for(rng, load):
     return min(load + spare, GREATEST_CAPACITY)
 
 
-def bounds_for(rng, quantity):
-    """A floor and a ceiling with the quantity between them."""
+def bounds_for(rng, quantity, full):
+    """A floor and a ceiling with the quantity between them, or at the ceiling."""
     floor = rng.choice([0, 0, quantity, rng.randint(0, quantity)])
     ceiling = quantity + rng.choice([0, 0, rng.randint(0, GREATEST_QUANTITY)])
-    return floor, ceiling
+    return floor, quantity if full else ceiling
 
 
 def row(*fields):
@@ -190,10 +193,10 @@ def system_rows(rng, shape, receipts, deliveries, pools, lines):
         yield row("pool", pool.name, f"PLACE-{pool.place + 1}", operator)
 
 
-def question_rows(rng, book, lines):
+def question_rows(rng, book, lines, full):
     yield row("question", book, 3, 3)
     for line in lines:
-        floor, ceiling = bounds_for(rng, line.quantity)
+        floor, ceiling = bounds_for(rng, line.quantity, full)
         yield row("line", line.origin, line.dest, rng.randint(1, 8), floor, ceiling)
     for number, line in enumerate(lines, 1):
         yield row("sched", number, line.quantity)
@@ -212,7 +215,12 @@ def text_of(arguments):
     )
     pools = gathering + selling
     yield from system_rows(rng, shape, receipts, deliveries, pools, lines)
-    yield from question_rows(rng, arguments.shape.upper(), lines)
+    yield from question_rows(rng, arguments.shape.upper(), lines, arguments.best)
+    if arguments.best:
+        segments = [f"SEG-{k}" for k in range(1, len(shape.parent))]
+        for name in segments + [*receipts, *deliveries] + [p.name for p in pools]:
+            for level in range(1, 9):
+                yield row("price", name, level, 0, 0)
 
 
 def number_between(least, greatest):
@@ -243,6 +251,9 @@ def main():
             metavar="N",
             help=f"{least} to {greatest}, else {greatest}",
         )
+    parser.add_argument(
+        "--best", action="store_true", help="with prices that show it best"
+    )
     parser.add_argument("--seed", type=int, default=1, metavar="S", help="else 1")
     sys.stdout.writelines(text_of(parser.parse_args()))
 

@@ -1,14 +1,14 @@
 #!/usr/bin/env python3
 """Measures `PROGRAM check allowed` on the three largest questions.
 
-    bench/measure.py PROGRAM [--runs N]
+    bench/measure.py PROGRAM [--runs N] [--check allowed|best]
 
 Each shape's text is made by generate.py beside this file. The program and
 Python's csv.reader, which only splits the same text into fields, then read it
 in turn. The table has the best wall time of each and the program's greatest
 peak of memory; 1 MB is 1,000,000 bytes. The aim for the peak is 64 MB and 20
 times the text. Nothing is asserted about speed or memory: the exit status is 1
-only where the program doesn't answer `allowed` first.
+only where the program doesn't answer `allowed`, or `best`, first.
 """
 
 import argparse
@@ -53,15 +53,16 @@ def run(words, text):
         return Run(seconds, usage.ru_maxrss * RSS_BYTES, child.returncode, first)
 
 
-def measure(program, shape, text, runs):
+def measure(program, check, shape, text, runs):
     """Prints the shape's row of the table. Answers whether each run of the
-    program answered `allowed` first."""
+    program answered by the check's word first."""
+    words = [sys.executable, GENERATE, shape] + ["--best"] * (check == "best")
     with open(text, "wb") as target:
-        subprocess.run([sys.executable, GENERATE, shape], stdout=target, check=True)
+        subprocess.run(words, stdout=target, check=True)
     content = text.read_bytes()
     ours, theirs = [], []
     for _ in range(runs):
-        ours.append(run([program, "check", "allowed"], text))
+        ours.append(run([program, "check", check], text))
         theirs.append(run(READER, text))
     rows = content.count(b"\n")
     aim = 64 + 20 * len(content) / MEGABYTE
@@ -72,11 +73,11 @@ def measure(program, shape, text, runs):
         f"{max(r.peak for r in ours) / MEGABYTE:>10.1f}{aim:>8.1f}",
         flush=True,
     )
-    wrong = [r for r in ours if r.first.split(",")[0] != "allowed"]
+    wrong = [r for r in ours if r.first.split(",")[0] != check]
     if wrong:
         print(
             f"{shape}: answered '{wrong[0].first}' with status {wrong[0].status}"
-            f" in {len(wrong)} of {runs} runs, not 'allowed'",
+            f" in {len(wrong)} of {runs} runs, not '{check}'",
             file=sys.stderr,
         )
     return not wrong
@@ -88,6 +89,7 @@ def main():
     )
     parser.add_argument("program", metavar="PROGRAM")
     parser.add_argument("--runs", type=int, default=5, metavar="N", help="else 5")
+    parser.add_argument("--check", choices=["allowed", "best"], default="allowed")
     arguments = parser.parse_args()
     if arguments.runs < 1:
         parser.error("there must be a run")
@@ -98,7 +100,8 @@ def main():
     with tempfile.TemporaryDirectory() as folder:
         text = Path(folder) / "question.csv"
         answers = [
-            measure(arguments.program, shape, text, arguments.runs) for shape in SHAPES
+            measure(arguments.program, arguments.check, shape, text, arguments.runs)
+            for shape in SHAPES
         ]
     least = run(["true"], os.devnull).peak / MEGABYTE
     print(f"No peak below {least:.1f} MB can be seen: doing nothing shows as much.")

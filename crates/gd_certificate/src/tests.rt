@@ -77,7 +77,7 @@ fn pooled(rt: &impl Abort, alloc: Global) -> Result<System, Fail> {
     finished(builder)
 }
 
-/// S1 from A to B and S2 from B to C of 100, receipts R1 at A and R2 at B, deliveries D1 at B and D2 at C.
+/// S1 from A to B and S2 from B to C of 100, receipts R1 at A and R2 at B, deliveries D1 at B and DC at C.
 fn chain(rt: &impl Abort, alloc: Global) -> Result<System, Fail> {
     let mut builder = SystemBuilder::new(alloc);
     add_segment(rt, &mut builder, ["S1", "A", "B"], 100)?;
@@ -85,7 +85,7 @@ fn chain(rt: &impl Abort, alloc: Global) -> Result<System, Fail> {
     add_point(rt, &mut builder, "R1", Kind::Receipt, "A")?;
     add_point(rt, &mut builder, "R2", Kind::Receipt, "B")?;
     add_point(rt, &mut builder, "D1", Kind::Delivery, "B")?;
-    add_point(rt, &mut builder, "D2", Kind::Delivery, "C")?;
+    add_point(rt, &mut builder, "DC", Kind::Delivery, "C")?;
     finished(builder)
 }
 
@@ -228,9 +228,9 @@ fn told_of_three(
 ) -> Result<Result<(), CertFault>, Fail> {
     let [long, short] = classes;
     let lines = [
-        ("R1", "D2", long, 0, 100),
+        ("R1", "DC", long, 0, 100),
         ("R1", "D1", short, 0, 100),
-        ("R2", "D2", short, 0, 100),
+        ("R2", "DC", short, 0, 100),
     ];
     let none = Tariff::zero();
     let values = [values[0], values[1], none, none, none, none];

@@ -24,7 +24,7 @@ ns =
     ∷ record { key = firm; cycle = 4; class = 1; quantity = 40 } ∷ []
 
 -- lines are numbered from 0 as they come
-lines : (lines_of ns ≡ interruptible ∷ firm ∷ spare ∷ []) × (find ns firm ≡ Some 1) × (line_key ns 2 ≡ spare) × (find ns (record firm { dest = codes "D2" }) ≡ None)
+lines : (lines_of ns ≡ interruptible ∷ firm ∷ spare ∷ []) × (find ns firm ≡ Some 1) × (line_key ns 2 ≡ spare) × (find ns (record firm { dest = codes "DX" }) ≡ None)
 unfolding ns firm spare interruptible
 lines = (refl, refl, refl, refl)
 
