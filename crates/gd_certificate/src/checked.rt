@@ -13,7 +13,7 @@ use crate::{CertFault, Prices};
 use gd_cost::Tariff;
 use gd_question::Question;
 use gd_schedule::Schedule;
-use std::alloc::Global;
+use std::alloc::{AllocError, Global};
 use std::marker::Model;
 use std::thread::Threads;
 
@@ -65,6 +65,20 @@ impl Checked {
         ensures { result.now ≡ self.now.prices }
     {
         &self.prices
+    }
+
+    /// The same three once more, which passed with them. The only error is want of memory.
+    pub fn try_clone(&self, alloc: Global) -> Result<Checked, AllocError>
+        ensures { IfOk result (λ copy. copy ≡ self.now) }
+    {
+        let question = self.question.try_clone(alloc)?;
+        let schedule = self.schedule.try_clone(alloc)?;
+        let prices = self.prices.try_clone(alloc)?;
+        Ok(Checked {
+            question,
+            schedule,
+            prices,
+        })
     }
 }
 

@@ -1,5 +1,5 @@
 -- What two questions have in common shows in what is asked.
-use Rattle.std.proofs.Common.{◌≡◌, ℕ, zero, suc, ◌+◌, ◌<◌, ◌≤◌, Bool, true, false, List, [], ◌∷◌, get_or, map, length, refl, sym, ap, ap₂, ◌∙◌, subst, arith, Some, IsSome, ◌&&◌, nat_eq}
+use Rattle.std.proofs.Common.{◌≡◌, ℕ, suc, ◌+◌, ◌<◌, ◌≤◌, List, [], ◌∷◌, get_or, map, length, refl, sym, ap, ap₂, ◌∙◌, subst, arith, Some, IsSome, ◌&&◌, nat_eq}
 use Rattle.std.specs.Bool.{Decides}
 use Rattle.std.proofs.lemmas.Bool.Decides.{Decides-eqb}
 use Rattle.gd_rules.specs.Question as rules
@@ -38,7 +38,7 @@ numbered a b = both _ _ (Decides-eqb a.class b.class) (bounded a b) (λ p q. (p,
 pub rows_decided : (a b : Row) → Decides (row.eq-value.it a b) (a ≡ b)
 rows_decided a b =
     both _ _ (ends_decided a.ends b.ends) (numbered a b) (λ p q. same_row a b p q.0 q.1 q.2)
-        (λ r. ap (λ (v : Row). v.ends) r) (λ r. (ap (λ (v : Row). v.class) r, ap (λ (v : Row). v.floor) r, ap (λ (v : Row). v.ceiling) r))
+    (λ r. ap (λ (v : Row). v.ends) r) (λ r. (ap (λ (v : Row). v.class) r, ap (λ (v : Row). v.floor) r, ap (λ (v : Row). v.ceiling) r))
 
 -- An element that has a limit shows it.
 same_limit : (e : rules.Element) (x y : ℕ) → IsSome (limit_of e) → with_limit e x ≡ with_limit e y → x ≡ y
@@ -119,7 +119,7 @@ module _ (a b : Inside) where
         let parts = length-elements a.system in
         let limited = ia.limited in
         same_limits (elements_of a.system) a.capacities.items b.capacities.items sized (omega arith)
-            (λ k h. limits_first a.system k ia.system (omega arith)) elements_same
+        (λ k h. limits_first a.system k ia.system (omega arith)) elements_same
 
     lines_same : map (line_of a.system) a.rows.items ≡ map (line_of a.system) b.rows.items
     lines_same = ap (λ (v : Posed). v.asked.lines) same ∙ ap (λ (p : Pipeline). map (line_of p) b.rows.items) (sym same_system)

@@ -1,5 +1,5 @@
 -- What it is for two entries to be the same.
-use Rattle.std.proofs.Common.{rules, ◌≡◌, ℕ, Bool, true, false, refl, List, ap, ap₂, sym, ◌&&◌, nat_eq, ◌∙◌}
+use Rattle.std.proofs.Common.{◌≡◌, ℕ, Bool, true, false, refl, List, ap, ap₂, sym, ◌&&◌, nat_eq, ◌∙◌}
 use Rattle.std.specs.Bool.{Decides}
 use Rattle.std.specs.Str.{bytes_eq}
 use Rattle.std.proofs.lemmas.Slice.Eq.{bytes_eq-Decides}
@@ -45,13 +45,13 @@ placed a b = both _ _ (Decides-eqb a.place.0 b.place.0) (operated a.operator b.o
 pub points_decided : (a b : Point) → Decides (point.eq-value.it a b) (a ≡ b)
 points_decided a b =
     both _ _ (kinds kind.eq-value.it refl refl refl refl a.kind b.kind) (placed a b) (λ p q. same_point _ _ _ _ _ _ _ _ p q.0 q.1 q.2)
-        (λ r. ap (λ (v : Point). v.kind) r) (λ r. (ap (λ (v : Point). v.place.0) r, ap (λ (v : Point). v.operator) r, ap (λ (v : Point). v.capacity) r))
+    (λ r. ap (λ (v : Point). v.kind) r) (λ r. (ap (λ (v : Point). v.place.0) r, ap (λ (v : Point). v.operator) r, ap (λ (v : Point). v.capacity) r))
 
 pub pools_decided : (a b : Pool) → Decides (pool.eq-value.it a b) (a ≡ b)
 pools_decided a b =
     both _ _ (Decides-eqb a.place.0 b.place.0) (bytes_eq-Decides a.operator b.operator)
-        (λ p q. ap₂ (λ (x : ℕ) (y : List ℕ). let v : Pool = record { place = record { 0 = x }; operator = y } in v) p q)
-        (λ r. ap (λ (v : Pool). v.place.0) r) (λ r. ap (λ (v : Pool). v.operator) r)
+    (λ p q. ap₂ (λ (x : ℕ) (y : List ℕ). let v : Pool = record { place = record { 0 = x }; operator = y } in v) p q)
+    (λ r. ap (λ (v : Pool). v.place.0) r) (λ r. ap (λ (v : Pool). v.operator) r)
 
 pub entries_decided : {V : Type 0} {E : V → V → Bool} → ((a b : V) → Decides (E a b) (a ≡ b)) → (a b : List ℕ × V) → Decides (bytes_eq a.0 b.0 && E a.1 b.1) (a ≡ b)
 entries_decided value a b =
@@ -76,4 +76,4 @@ hung a b =
 pub ends_decided : (a b : Ends) → Decides (ends.eq-value.it a b) (a ≡ b)
 ends_decided a b =
     both _ _ (Decides-eqb a.origin.0 b.origin.0) (hung a b) (λ p q. same_ends a b p q.0 q.1 q.2)
-        (λ r. ap (λ (v : Ends). v.origin.0) r) (λ r. (ap (λ (v : Ends). v.dest.0) r, ap (λ (v : Ends). v.origin_place.0) r, ap (λ (v : Ends). v.dest_place.0) r))
+    (λ r. ap (λ (v : Ends). v.origin.0) r) (λ r. (ap (λ (v : Ends). v.dest.0) r, ap (λ (v : Ends). v.origin_place.0) r, ap (λ (v : Ends). v.dest_place.0) r))
