@@ -3,7 +3,7 @@ use Rattle.std.proofs.Common.{◌≡◌, ℕ, ◌+◌, ◌^◌, ◌<◌, ◌≤�
 use Rattle.std.specs.Prelude.{ℤ, pos, IfOk}
 use Rattle.std.specs.declared.result.Result.{Result}
 use Rattle.std.specs.declared.result.Result.TheVariants.{Ok}
-use Rattle.gd_rules.specs.Question.{Question, line}
+use Rattle.gd_rules.specs.Question.{Question}
 use Rattle.gd_rules.specs.Schedule.{quantity}
 use Rattle.gd_question.specs.Known.{IsKnown}
 use Rattle.gd_schedule.specs.Sizes.{IsSized}

@@ -1,5 +1,5 @@
 -- What a pass shows, and what a fault excludes.
-use Rattle.std.proofs.Common.{◌≡◌, ℕ, ◌<◌, subst, sym, List, length, ◌&&◌, Bool, true, false, refl, inl, inr, map}
+use Rattle.std.proofs.Common.{◌≡◌, ℕ, ◌<◌, subst, sym, List, ◌&&◌, Bool, true, false, refl, inl, inr}
 use Rattle.std.specs.Prelude.{ℤ, pos, ◌^◌, OnOk, IfErr}
 use Rattle.std.specs.declared.result.Result.{Result}
 use Rattle.std.specs.declared.result.Result.TheVariants.{Ok, Err}
@@ -7,7 +7,7 @@ use Rattle.gd_rules.specs.Scale.{Scale}
 use Rattle.gd_rules.specs.Question.{Question}
 use Rattle.gd_rules.specs.Schedule.{IsAllowed, HasBetterTotals}
 use Rattle.gd_rules.specs.Spread.{IsBest}
-use Rattle.gd_rules.specs.Priced.{IsPriced, price}
+use Rattle.gd_rules.specs.Priced.{price}
 use Rattle.gd_rules.specs.Tariff.{IsPricedByTariff, IsPricedByClasses}
 use Rattle.gd_rules.specs.Words.{tariff, tariff_unit, words, words_fit, both_fit, class_unit}
 use Rattle.gd_rules.proofs.Better as Better

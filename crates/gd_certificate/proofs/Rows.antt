@@ -1,16 +1,15 @@
 -- The definitions at worked examples.
-use Rattle.std.proofs.Common.{◌≡◌, ℕ, suc, zero, List, [], ◌∷◌, refl, true, false, Bool, replicate, get_or}
-use Rattle.std.specs.Prelude.{ℤ, pos, negsuc, Some, None}
-use Rattle.std.specs.declared.cmp.Ordering.TheVariants.{Less, Equal, Greater}
+use Rattle.std.proofs.Common.{◌≡◌, ℕ, [], ◌∷◌, refl, true, false}
+use Rattle.std.specs.Prelude.{pos, negsuc}
 use Rattle.gd_rules.specs.Question.{Question}
 use Rattle.gd_rules.specs.Question.Element.{Segment, Receipt, Delivery, Pool}
 use Rattle.gd_rules.specs.Words.{whole}
 use Rattle.gd_rules.specs.Cut.{excess, has_end, has_place}
-use Rattle.gd_rules.specs.Priced.{price, crossed}
+use Rattle.gd_rules.specs.Priced.{crossed}
 use Rattle.gd_tree.specs.Levels.{RisesBy}
 use Rattle.gd_system.specs.Pipeline.{Pipeline}
 use Rattle.gd_units.specs.declared.service.Kind.TheVariants as kind
-use Rattle.gd_certificate.specs.Paid.{ClearsLimit, origin_price}
+use Rattle.gd_certificate.specs.Paid.{origin_price}
 use Rattle.gd_certificate.specs.Levels.{level}
 use Rattle.gd_certificate.specs.Cutting.{Members, side_of, IsShaped}
 

@@ -103,3 +103,42 @@ fn intakes(rt: HostRuntime) -> Result<(), Fail> {
     assert_eq!(rt; taken[2].1.get(), 60);
     Ok(())
 }
+
+// A key of its own for each number, by a package of five digits.
+fn numbered(rt: &impl Abort, number: u32) -> LineKey {
+    let mut bytes = [b'0'; 5];
+    let mut left = number;
+    for at in 0..5 {
+        bytes[4 - at] = b'0' + (left % 10) as u8;
+        left /= 10;
+    }
+    LineKey {
+        contract: name(rt, "FIRM"),
+        package: Name::of_bytes(&bytes).expect(rt, "a package"),
+        origin: name(rt, "R1"),
+        dest: name(rt, "D1"),
+    }
+}
+
+// As many lines as there may be, and one more.
+fn fill(rt: &impl Abort, lines: &mut Lines)
+    requires { All (λ former. former.cycle ≤ 1) lines.old }
+{
+    for at in 0..20_001 {
+        let told = nominate(rt, lines, numbered(rt, at), 1, 1);
+        let wanted = if at < 20_000 {
+            Ok(at)
+        } else {
+            Err(LinesFault::TooManyLines)
+        };
+        assert_eq!(rt; told, wanted);
+    }
+}
+
+#[test]
+fn no_more_than_20_000_lines(rt: HostRuntime) -> Result<(), Fail> {
+    let mut lines = Lines::new(rt.alloc());
+    fill(&rt, &mut lines);
+    assert_eq!(rt; lines.len(), 20_000);
+    Ok(())
+}

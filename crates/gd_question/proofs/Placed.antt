@@ -1,9 +1,8 @@
 -- Other capacities leave the elements where they stand.
-use Rattle.std.proofs.Common.{◌≡◌, ℕ, ◌<◌, ◌≤◌, List, get_or, length, refl, sym, subst, arith}
+use Rattle.std.proofs.Common.{◌≡◌, ℕ, ◌<◌, ◌≤◌, List, length, refl, sym, subst, arith}
 use Rattle.gd_rules.specs.Question as rules
 use Rattle.gd_rules.specs.Question.Element.{Segment, Receipt, Delivery, Pool}
-use Rattle.gd_rules.specs.Tree.{place_of}
-use Rattle.gd_tree.specs.Grown.{Joins, IsNoSegment, IsGrown}
+use Rattle.gd_tree.specs.Grown.{Joins, IsNoSegment}
 use Rattle.gd_system.specs.Pipeline.{Pipeline, elements_of}
 use Rattle.gd_system.specs.Known.{IsSystem}
 use Rattle.gd_question.specs.Posed.{with_limit}

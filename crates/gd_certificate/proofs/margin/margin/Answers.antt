@@ -1,7 +1,6 @@
 use Rattle.std.proofs.Common.{◌≡◌, ℕ, ap, ◌∙◌}
 use Rattle.gd_rules.specs.Question.{line}
 use Rattle.gd_rules.specs.Spread.{tenth_of}
-use Rattle.gd_certificate.proofs.Paying.{unit_fits, paid_fits}
 use Rattle.gd_certificate.proofs.margin.margin.Goals as goal
 
 pub returns : goal.returns

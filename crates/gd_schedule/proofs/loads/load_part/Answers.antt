@@ -1,4 +1,4 @@
-use Rattle.std.proofs.Common.{pos, ◌+◌, ◌<◌, ◌^◌, length, get_or, arith, ◌∙◌, subst, sym, ap}
+use Rattle.std.proofs.Common.{pos, ◌+◌, ◌<◌, ◌^◌, get_or, arith, ◌∙◌, subst, sym, ap}
 use Rattle.gd_schedule.specs.Sizes.{IsSized}
 use Rattle.gd_schedule.proofs.Sizes.{part_sized}
 use Rattle.gd_schedule.proofs.loads.load_part.Goals as goal
