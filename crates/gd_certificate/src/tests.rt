@@ -357,7 +357,10 @@ fn told_together(
         &[price(rt, 4, 1, spread), Tariff::zero(), Tariff::zero()],
     )?;
     match check_par(rt, alloc, question, schedule, prices) {
-        Ok(checked) => Ok(Ok(shown(rt, &checked))),
+        Ok(checked) => {
+            let copy = checked.try_clone(alloc)?;
+            Ok(Ok(shown(rt, &copy)))
+        }
         Err((fault, _, _, _)) => Ok(Err(fault)),
     }
 }
