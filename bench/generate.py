@@ -2,11 +2,18 @@
 """Writes a question of the largest size to standard output, as a text that
 `gasday check allowed` answers with `allowed`.
 
-    bench/generate.py deep|star|branching [--best]
+    bench/generate.py deep|star|branching [--best | --solve | --fixed | --short]
         [--lines N] [--places N] [--points N] [--pools N] [--seed S]
 
 With --best each line has its ceiling, and each element has a price row for
 each class, of words 0: `gasday check best` answers with `best`.
+
+With the other three the text has no schedule and is one for `gasday solve`.
+--solve leaves the bounds as they are, so that many schedules are allowed.
+--fixed has each line's floor and ceiling at its quantity, but a floor of 0 at
+the lines into pools: one schedule is allowed, and what leaves the pools has to
+be brought into them first. --short is the same with one dekatherm more out of
+the first pool than can come in: none is allowed.
 
 deep        one chain: each segment goes on where the one before it ended.
             Receipt points stand in the first eighth and delivery points in
@@ -170,6 +177,21 @@ def bounds_for(rng, quantity, full):
     return floor, quantity if full else ceiling
 
 
+def fixed_bounds(lines, short):
+    """A floor and a ceiling for each line, so that one schedule is allowed; or,
+    with one dekatherm too many out of a pool, none."""
+    bounds = [(0 if is_pool(a.dest) else a.quantity, a.quantity) for a in lines]
+    first = next((i for i, a in enumerate(lines) if is_pool(a.origin)), None)
+    if short and first is not None:
+        more = bounds[first][1] + 1
+        bounds[first] = (more, more)
+    return bounds
+
+
+def is_pool(name):
+    return name.startswith("POOL-")
+
+
 def row(*fields):
     return ",".join(map(str, fields)) + "," * (8 - len(fields)) + "\n"
 
@@ -193,13 +215,17 @@ def system_rows(rng, shape, receipts, deliveries, pools, lines):
         yield row("pool", pool.name, f"PLACE-{pool.place + 1}", operator)
 
 
-def question_rows(rng, book, lines, full):
+def question_rows(rng, book, lines, asked):
     yield row("question", book, 3, 3)
-    for line in lines:
-        floor, ceiling = bounds_for(rng, line.quantity, full)
+    if asked in ("fixed", "short"):
+        bounds = fixed_bounds(lines, asked == "short")
+    else:
+        bounds = (bounds_for(rng, line.quantity, asked == "best") for line in lines)
+    for line, (floor, ceiling) in zip(lines, bounds):
         yield row("line", line.origin, line.dest, rng.randint(1, 8), floor, ceiling)
-    for number, line in enumerate(lines, 1):
-        yield row("sched", number, line.quantity)
+    if asked in ("allowed", "best"):
+        for number, line in enumerate(lines, 1):
+            yield row("sched", number, line.quantity)
 
 
 def text_of(arguments):
@@ -215,8 +241,8 @@ def text_of(arguments):
     )
     pools = gathering + selling
     yield from system_rows(rng, shape, receipts, deliveries, pools, lines)
-    yield from question_rows(rng, arguments.shape.upper(), lines, arguments.best)
-    if arguments.best:
+    yield from question_rows(rng, arguments.shape.upper(), lines, arguments.asked)
+    if arguments.asked == "best":
         segments = [f"SEG-{k}" for k in range(1, len(shape.parent))]
         for name in segments + [*receipts, *deliveries] + [p.name for p in pools]:
             for level in range(1, 9):
@@ -251,9 +277,16 @@ def main():
             metavar="N",
             help=f"{least} to {greatest}, else {greatest}",
         )
-    parser.add_argument(
-        "--best", action="store_true", help="with prices that show it best"
-    )
+    for asked, what in (
+        ("best", "with prices that show it best"),
+        ("solve", "without a schedule"),
+        ("fixed", "without a schedule, one being allowed"),
+        ("short", "without a schedule, none being allowed"),
+    ):
+        parser.add_argument(
+            f"--{asked}", dest="asked", action="store_const", const=asked, help=what
+        )
+    parser.set_defaults(asked="allowed")
     parser.add_argument("--seed", type=int, default=1, metavar="S", help="else 1")
     sys.stdout.writelines(text_of(parser.parse_args()))
 

@@ -7,7 +7,7 @@ use Rattle.clap.specs.declared.error.kind.ErrorKind.TheVariants as kind
 use Rattle.gasday_part.specs.declared.command.Command.{Command}
 use Rattle.gasday_part.specs.declared.fault.UsageFault.{UsageFault}
 use Rattle.gasday_part.specs.declared.fault.UsageFault.TheVariants.{Help, Usage, OutOfMemory}
-use Rattle.gasday_part.specs.Meaning.{Meaning, CheckAllowed, CheckBest, CheckCut, Calendar, gasday, meaning_of, arguments}
+use Rattle.gasday_part.specs.Meaning.{Meaning, CheckAllowed, CheckBest, CheckCut, Solve, Calendar, gasday, meaning_of, arguments}
 use Rattle.gasday_part.specs.Seen.{seen}
 use Rattle.gasday_part.specs.Told.{IsCommand, IsHelp, IsTold}
 
@@ -48,6 +48,18 @@ check_cut words h = simp h
 pub check_cut_is : (words : List Text) → arguments words ≡ codes "check" ∷ codes "cut" ∷ [] → meaning_of words ≡ Some CheckCut
 unfolding clap_on_literals
 check_cut_is words h = simp h
+
+pub solve : (words : List Text) → arguments words ≡ codes "solve" ∷ [] → takes gasday words ≡ true
+unfolding clap_on_literals
+solve words h = simp h
+
+pub solve_is : (words : List Text) → arguments words ≡ codes "solve" ∷ [] → meaning_of words ≡ Some Solve
+unfolding clap_on_literals
+solve_is words h = simp h
+
+pub help_of_solve : (words : List Text) → arguments words ≡ codes "solve" ∷ codes "--help" ∷ [] → fault_of gasday words ≡ kind.DisplayHelp ∷ []
+unfolding clap_on_literals
+help_of_solve words h = simp h
 
 pub calendar : (words : List Text) → arguments words ≡ codes "calendar" ∷ [] → takes gasday words ≡ true
 unfolding clap_on_literals

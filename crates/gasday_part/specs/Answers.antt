@@ -1,5 +1,5 @@
 -- What a command answers to a text.
-use Rattle.std.specs.Prelude.{◌≡◌, ◌⊎◌, ℕ, ◌+◌, pos, length, map, Option, Some, None, List, [], ◌∷◌, Result, Ok, Err}
+use Rattle.std.specs.Prelude.{◌≡◌, ◌⊎◌, ℕ, ◌+◌, ℤ, pos, length, map, Option, Some, None, List, [], ◌∷◌, Result, Ok, Err}
 use Rattle.std.specs.Option.{IsSome}
 use Rattle.jiff.specs.Words.{IsYmd, read_whole}
 use Rattle.jiff.specs.Placed.{IsPosixZone}
@@ -14,7 +14,7 @@ use Rattle.gd_cost.specs.Parts.{class_words}
 use Rattle.gd_cost.specs.declared.lex.Lex.{Lex}
 use Rattle.gd_cost.specs.declared.pair.Pair.{Pair}
 use Rattle.gd_certificate.specs.InForce.{ExplainsTariff}
-use Rattle.gd_certificate.specs.Cutting.{Members, Cuts, ExplainsCut, side_of}
+use Rattle.gd_certificate.specs.Cutting.{Members, IsShaped, Cuts, ExplainsCut, side_of}
 use Rattle.gd_certificate.specs.declared.CertFault.{CertFault}
 use Rattle.gd_certificate.specs.declared.cut.CutFault.{CutFault}
 use Rattle.gd_question.specs.Posed.{Posed}
@@ -33,7 +33,7 @@ use Rattle.gd_text.specs.Calendars.{day_of, calendar_rows}
 use Rattle.gd_text.specs.Values.{asked_of}
 use Rattle.gd_text.specs.Prices.{Table, ArePrices, prices_of}
 use Rattle.gd_text.specs.Members.{members_of}
-use Rattle.gd_text.specs.Replies.{allowed_rows, best_rows, Tells, TellsFault, cut_fault_reply}
+use Rattle.gd_text.specs.Replies.{allowed_rows, best_rows, Tells, TellsFault, cut_fault_reply, solved_rows, cut_rows}
 use Rattle.gd_text.specs.declared.reply.Reply.{Reply}
 use Rattle.gd_text.specs.declared.reply.Reply.TheVariants as reply
 use Rattle.gd_text.specs.declared.reply.InputFault.TheVariants as input
@@ -97,6 +97,17 @@ abbrev pub ChecksCut : List Row → Result (Posed × List ℕ) TextFault → Tol
 ChecksCut rows (Ok asked) a = ChecksMembers asked.0 (members_of rows asked.0.pipeline) a
 ChecksCut rows (Err f) a = a ≡ fault_answer f
 
+-- A schedule that is best, since the prices are right, is told with the prices, with status 0. Or a cut is told, with status 1: no schedule is allowed, since more must leave the set than can.
+abbrev pub Solves : Posed → Told → Type 0
+Solves q a =
+    ((schedule : List ℕ) × (prices : List ((ℕ → ℤ) × (ℕ → ℤ))) × IsAllowed q.asked schedule × IsPricedByTariff q.asked schedule prices × IsBest q.asked schedule × (a ≡ record { replies = solved_rows q schedule prices; status = 0 }))
+    ⊎ ((cut : Members) × (excess_of : ℕ) × IsShaped q.pipeline cut × Cuts q cut × (pos excess_of ≡ excess q.asked (side_of q.pipeline cut)) × ((schedule : List ℕ) → ¬ (IsAllowed q.asked schedule)) × (a ≡ record { replies = cut_rows q.pipeline cut excess_of; status = 1 }))
+
+-- what is asked is solved, or the first refusal is told
+abbrev pub SolvesAsked : Result (Posed × List ℕ) TextFault → Told → Type 0
+SolvesAsked (Ok asked) a = Solves asked.0 a
+SolvesAsked (Err f) a = a ≡ fault_answer f
+
 -- The zone's calendar of a gas day is told, with status 0; or there is none.
 abbrev pub TellsZone : TimeZone → Date → Told → Type 0
 TellsZone zone day a =
@@ -124,6 +135,7 @@ abbrev pub form_of : Command → Form
 form_of command.CheckAllowed = form.CheckAllowed
 form_of command.CheckBest = form.CheckBest
 form_of command.CheckCut = form.CheckCut
+form_of command.Solve = form.Solve
 form_of command.Calendar = form.Calendar
 
 -- what a command answers to the rows of its text
@@ -131,6 +143,7 @@ abbrev pub AnswersRows : Command → List Row → Told → Type 0
 AnswersRows command.CheckAllowed rows a = ChecksAsked (asked_of rows) a
 AnswersRows command.CheckBest rows a = ChecksBest rows (asked_of rows) a
 AnswersRows command.CheckCut rows a = ChecksCut rows (asked_of rows) a
+AnswersRows command.Solve rows a = SolvesAsked (asked_of rows) a
 AnswersRows command.Calendar rows a = TellsCalendar (length rows + 1) (day_of rows) a
 
 -- the rows are answered, or the first fault is told

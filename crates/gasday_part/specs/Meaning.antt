@@ -13,6 +13,9 @@ what = record (new_rule (codes "what")) { value_names = 1; required = true }
 abbrev pub check : App
 check = with_rule (new_app (codes "check")) what
 
+abbrev pub solve : App
+solve = new_app (codes "solve")
+
 abbrev pub calendar : App
 calendar = new_app (codes "calendar")
 
@@ -21,7 +24,7 @@ bare = new_app (codes "gasday")
 
 -- the program's command line
 abbrev pub gasday : App
-gasday = with_subcommand (with_subcommand bare check.top) calendar.top
+gasday = with_subcommand (with_subcommand (with_subcommand bare check.top) solve.top) calendar.top
 
 -- ---- the meaning of words
 
@@ -30,6 +33,7 @@ pub data Meaning : Type 0 where
   CheckAllowed : Meaning
   CheckBest : Meaning
   CheckCut : Meaning
+  Solve : Meaning
   Calendar : Meaning
 
 -- the check that the word after `check` names
@@ -45,6 +49,7 @@ check_named (Some word) =
 abbrev pub command_from : Text → Option Text → Option Meaning
 command_from name what =
     if bytes_eq name (codes "check") then check_named what
+    else if bytes_eq name (codes "solve") then Some Solve
     else if bytes_eq name (codes "calendar") then Some Calendar
     else None
 

@@ -8,6 +8,7 @@ ghost use Rattle.gd_text_part.specs.declared.fault.TextFault.TheVariants.{OutOfM
 use crate::certificate::{tell_best, tell_cut};
 use crate::command::Command;
 use crate::day::tell_day;
+use crate::solve::tell_solved;
 use gd_text::{Asked, InputFault, Reply, allowed_replies, asked_of, broken_reply, day_of};
 use gd_text_part::{Cause, Row, TextFault, read_all};
 use std::alloc::{AllocError, Global};
@@ -86,6 +87,7 @@ fn answer_to_rows(alloc: Global, command: Command, rows: &[Row]) -> Result<Answe
     match command {
         Command::CheckBest => tell_best(alloc, &asked, rows),
         Command::CheckCut => tell_cut(alloc, &asked.question, rows),
+        Command::Solve => tell_solved(alloc, &asked.question),
         _ => check_allowed(alloc, &asked),
     }
 }

@@ -18,6 +18,8 @@ pub enum Command {
     CheckBest,
     /// Tells whether a set shows that no schedule is allowed.
     CheckCut,
+    /// Tells a best schedule with prices that show it best, or a set that shows that no schedule is allowed.
+    Solve,
     /// Tells the moments of a gas day's five cycles, and its hours.
     Calendar,
 }
@@ -31,6 +33,7 @@ impl Command {
             Command::CheckAllowed => Form::CheckAllowed,
             Command::CheckBest => Form::CheckBest,
             Command::CheckCut => Form::CheckCut,
+            Command::Solve => Form::Solve,
             Command::Calendar => Form::Calendar,
         }
     }
@@ -55,6 +58,7 @@ fn command_from(name: &str, what: Option<&str>) -> Option<Command>
 {
     match name {
         "check" => check_named(what),
+        "solve" => Some(Command::Solve),
         "calendar" => Some(Command::Calendar),
         _ => None,
     }

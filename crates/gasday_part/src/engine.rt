@@ -37,7 +37,7 @@ fn tell_no_memory<W: Write>(writer: &mut W) -> u8
 }
 
 /// Reads a text, writes the command's answer to it and nothing else, and answers the exit status: 0 where the answer
-/// is good, 1 where a schedule is broken, 2 after a fault of the text, the reader, the writer or memory.
+/// is good, 1 where a schedule is broken or none is allowed, 2 after a fault of the text, the reader, the writer or memory.
 ///
 /// Where memory runs out, the first rows of the answer are followed by `fault,0,OutOfMemory` or by nothing. After a
 /// failed write nothing more is written.

@@ -13,6 +13,7 @@ mod day;
 mod engine;
 mod fault;
 mod line;
+mod solve;
 mod words;
 
 pub use command::Command;

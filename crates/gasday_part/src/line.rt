@@ -20,7 +20,8 @@ Example:
 
 Exit status:
   0  the answer is good
-  1  a schedule, a price or a cut is broken, or a gas day has no calendar
+  1  a schedule, a price or a cut is broken, no schedule is allowed, or a gas day
+     has no calendar
   2  a fault of the command line, the input, the output or the memory";
 
 const ABOUT_CHECK: &str =
@@ -50,6 +51,37 @@ fn check<'a>(alloc: Global) -> Result<CommandLine<'a>, AllocError>
         .about(ABOUT_CHECK)
         .after_help(AFTER_HELP_OF_CHECK)
         .arg(what)
+}
+
+const ABOUT_SOLVE: &str =
+    "Tells a best schedule with prices that show it best, or a cut where no schedule is allowed";
+
+const AFTER_HELP_OF_SOLVE: &str =
+    "It reads a pipeline and a question: rows segment, point, pool, question, capacity and line.
+Where there is a best schedule it prints 'best' and the total of each class, and then rows
+  sched,LINE,QUANTITY
+  price,NAME,LEVEL,WORD,SPREAD
+of each line, and of each level of a price where one of the two words isn't 0. Where no schedule is
+allowed it prints
+  cut,EXCESS
+  inside,KIND,NAME
+with the places, points and pools of a set that more gas must leave than can, with status 1.
+
+What it prints can be checked, without trusting how it was found: put the rows after the totals
+behind the question's own, and give all to 'gasday check best'; or the inside rows, and give all to
+'gasday check cut'.
+
+Example:
+  gasday solve < examples/solve/question.csv";
+
+// `solve`, which takes no words.
+fn solve<'a>(alloc: Global) -> CommandLine<'a>
+    ensures app { app_of result ≡ spec.solve }
+    ensures local { (out-Command result).has_globals ≡ false }
+{
+    CommandLine::new(alloc, "solve")
+        .about(ABOUT_SOLVE)
+        .after_help(AFTER_HELP_OF_SOLVE)
 }
 
 const ABOUT_CALENDAR: &str = "Tells the moments of a gas day's five cycles, and its hours";
@@ -92,5 +124,6 @@ pub(crate) fn gasday<'a>(alloc: Global) -> Result<CommandLine<'a>, AllocError>
     ensures { IfOk result (λ c. app_of c ≡ spec.gasday) }
 {
     let with_check = bare(alloc).subcommand(check(alloc)?)?;
-    with_check.subcommand(calendar(alloc))
+    let with_solve = with_check.subcommand(solve(alloc))?;
+    with_solve.subcommand(calendar(alloc))
 }

@@ -3,20 +3,26 @@
 use super::*;
 use std::test::Fail;
 
-const LINES: [(&[&str], &str); 25] = [
+const LINES: [(&[&str], &str); 31] = [
     (&[], "allowed"),
     (&["gasday"], "allowed"),
     (&["gasday", "check", "allowed"], "allowed"),
     (&["out/another-name", "check", "allowed"], "allowed"),
     (&["gasday", "check", "best"], "best"),
     (&["gasday", "check", "cut"], "cut"),
+    (&["gasday", "solve"], "solve"),
     (&["gasday", "calendar"], "calendar"),
     (&["gasday", "--help"], "help"),
     (&["gasday", "-h"], "help"),
     (&["gasday", "help"], "help"),
     (&["gasday", "help", "check"], "help"),
     (&["gasday", "check", "--help"], "help"),
+    (&["gasday", "solve", "--help"], "help of solve"),
     (&["gasday", "calendar", "--help"], "help of calendar"),
+    (&["gasday", "solve", "best"], "usage"),
+    (&["gasday", "solve", "--nonsense"], "usage"),
+    (&["gasday", "check", "solve"], "usage"),
+    (&["gasday", "Solve"], "usage"),
     (&["gasday", "calendar", "2026-03-08"], "usage"),
     (&["gasday", "check", "calendar"], "usage"),
     (&["gasday", "nonsense"], "usage"),
@@ -37,6 +43,7 @@ fn told(rt: &HostRuntime, words: &[&str]) -> Option<(&'static str, String)> {
         Ok(Command::CheckAllowed) => Some(("allowed", String::new(rt.alloc()))),
         Ok(Command::CheckBest) => Some(("best", String::new(rt.alloc()))),
         Ok(Command::CheckCut) => Some(("cut", String::new(rt.alloc()))),
+        Ok(Command::Solve) => Some(("solve", String::new(rt.alloc()))),
         Ok(Command::Calendar) => Some(("calendar", String::new(rt.alloc()))),
         Err(UsageFault::Help(text)) => Some(("help", text)),
         Err(UsageFault::Usage(text)) => Some(("usage", text)),
@@ -46,6 +53,10 @@ fn told(rt: &HostRuntime, words: &[&str]) -> Option<(&'static str, String)> {
 
 fn reads_well(answer: &str, text: &str) -> bool {
     match answer {
+        "help of solve" => {
+            text.contains("\n  gasday solve < examples/solve/question.csv\n")
+                && text.ends_with('\n')
+        }
         "help of calendar" => {
             text.contains("\n  gasday calendar < examples/gas-day.csv\n") && text.ends_with('\n')
         }

@@ -58,11 +58,15 @@ pub fn command_of<'a, S: AsStr>(alloc: Global, words: &'a [S]) -> Result<Command
         ≡ codes "check" ∷ codes "best" ∷ [] → IsCommand spec.CheckBest result }
     ensures check_cut { spec.arguments (map S.text words.now)
         ≡ codes "check" ∷ codes "cut" ∷ [] → IsCommand spec.CheckCut result }
+    ensures solve { spec.arguments (map S.text words.now) ≡ codes "solve" ∷ []
+        → IsCommand spec.Solve result }
     ensures calendar { spec.arguments (map S.text words.now) ≡ codes "calendar" ∷ []
         → IsCommand spec.Calendar result }
     ensures help { spec.arguments (map S.text words.now) ≡ codes "--help" ∷ [] → IsHelp result }
     ensures help_of_check { spec.arguments (map S.text words.now)
         ≡ codes "check" ∷ codes "--help" ∷ [] → IsHelp result }
+    ensures help_of_solve { spec.arguments (map S.text words.now)
+        ≡ codes "solve" ∷ codes "--help" ∷ [] → IsHelp result }
     ensures help_of_calendar { spec.arguments (map S.text words.now)
         ≡ codes "calendar" ∷ codes "--help" ∷ [] → IsHelp result }
 {

@@ -1,8 +1,10 @@
 -- How replies are printed: rows of eight fields, each ended by a line feed.
-use Rattle.std.specs.Prelude.{ℕ, ◌-◌, List, [], ◌∷◌, ◌++◌, length, replicate, codes}
+use Rattle.std.specs.Prelude.{ℕ, ◌-◌, ◌==◌, ℤ, unsigned_abs, List, [], ◌∷◌, ◌++◌, length, replicate, codes, if◌then◌else◌}
 use Rattle.std.specs.List.{flat_map, join_with_byte}
-use Rattle.std.specs.Fmt.{decimal}
+use Rattle.std.specs.Fmt.{decimal, signed_decimal}
 use Rattle.gd_text_part.specs.Causes.{cause_name, cause_detail}
+use Rattle.gd_text_part.specs.declared.row.Member.{Member}
+use Rattle.gd_text_part.specs.declared.row.Member.TheVariants as member
 use Rattle.gd_text.specs.declared.reply.Reply.{Reply}
 use Rattle.gd_text.specs.declared.reply.Reply.TheVariants as reply
 use Rattle.gd_text.specs.declared.reply.InputFault.{InputFault}
@@ -21,6 +23,15 @@ fault_name input.ReadFailed = codes "ReadFailed"
 fault_name input.TooLong = codes "TooLong"
 fault_name input.OutOfMemory = codes "OutOfMemory"
 
+abbrev pub member_name : Member → List ℕ
+member_name member.Place = codes "place"
+member_name member.Point = codes "point"
+member_name member.Pool = codes "pool"
+
+-- a word of the spread, empty where it is 0
+abbrev pub spread_field : ℤ → List ℕ
+spread_field spread = if unsigned_abs spread == 0 then [] else signed_decimal spread
+
 abbrev pub fields_of : Reply → List (List ℕ)
 fields_of (reply.RowFault n c) = codes "fault" ∷ decimal n ∷ cause_name c ∷ cause_detail c ∷ []
 fields_of (reply.InputFault f) = codes "fault" ∷ codes "0" ∷ fault_name f ∷ []
@@ -38,6 +49,9 @@ fields_of (reply.Overfilled i) = codes "broken" ∷ codes "Overfilled" ∷ decim
 fields_of (reply.Cut excess) = codes "cut" ∷ decimal excess ∷ []
 fields_of reply.NotCut = codes "broken" ∷ codes "NotCut" ∷ []
 fields_of (reply.Total c q) = codes "total" ∷ decimal c ∷ decimal q ∷ []
+fields_of (reply.Sched i q) = codes "sched" ∷ decimal i ∷ decimal q ∷ []
+fields_of (reply.Price name level word spread) = codes "price" ∷ name ∷ decimal level ∷ signed_decimal word ∷ spread_field spread ∷ []
+fields_of (reply.Inside kind name) = codes "inside" ∷ member_name kind ∷ name ∷ []
 fields_of reply.OutOfRange = codes "refused" ∷ codes "calendar" ∷ codes "1" ∷ codes "OutOfRange" ∷ []
 fields_of reply.BadZone = codes "refused" ∷ codes "calendar" ∷ codes "2" ∷ codes "BadZone" ∷ []
 fields_of (reply.Cycle c leaves received quick confirmed schedules effective) =

@@ -1,5 +1,6 @@
--- The rows that tell what a check found.
-use Rattle.std.specs.Prelude.{◌≡◌, ℕ, zero, suc, ◌+◌, max, List, [], ◌∷◌, ◌++◌, length, slice_get, unwrap_or}
+-- The rows that tell what a check or the solver found.
+use Rattle.std.specs.Prelude.{◌≡◌, ℕ, zero, suc, ◌+◌, ◌==◌, ◌&&◌, ℤ, unsigned_abs, max, Bool, List, [], ◌∷◌, ◌++◌, length, map, flat_map, zip, slice_get, unwrap_or, if◌then◌else◌}
+use Rattle.std.specs.List.{enumerate_from, range_with_len, items_where_true}
 use Rattle.gd_rules.specs.Sum.{sum_below}
 use Rattle.gd_rules.specs.Question.{Question, line}
 use Rattle.gd_rules.specs.Schedule.{class_total}
@@ -7,10 +8,13 @@ use Rattle.gd_system.specs.Pipeline.{Pipeline, names_of}
 use Rattle.gd_question.specs.Posed.{Posed}
 use Rattle.gd_schedule.specs.declared.Broken.{Broken}
 use Rattle.gd_schedule.specs.declared.Broken.TheVariants as broken
+use Rattle.gd_certificate.specs.Cutting.{Members}
 use Rattle.gd_certificate.specs.declared.CertFault.{CertFault}
 use Rattle.gd_certificate.specs.declared.CertFault.TheVariants as cert
 use Rattle.gd_certificate.specs.declared.cut.CutFault.{CutFault}
 use Rattle.gd_certificate.specs.declared.cut.CutFault.TheVariants as cut
+use Rattle.gd_text_part.specs.declared.row.Member.{Member}
+use Rattle.gd_text_part.specs.declared.row.Member.TheVariants as member
 use Rattle.gd_text.specs.declared.reply.Reply.{Reply}
 use Rattle.gd_text.specs.declared.reply.Reply.TheVariants as reply
 
@@ -61,3 +65,36 @@ TellsFault q cert.OutOfMemory r = ⊥
 abbrev pub cut_fault_reply : CutFault → Reply
 cut_fault_reply cut.Shape = reply.Shape
 cut_fault_reply cut.NotCut = reply.NotCut
+
+-- the quantity of each line, lines counted from 1
+abbrev pub sched_rows : List ℕ → List Reply
+sched_rows schedule = map (λ line. reply.Sched line.0 line.1) (enumerate_from 1 schedule)
+
+-- the two words of an element's price at a level; no row where both are 0
+abbrev pub level_row : List ℕ → ℕ → ℤ → ℤ → List Reply
+level_row name level word spread =
+    if (unsigned_abs word == 0) && (unsigned_abs spread == 0) then [] else reply.Price name level word spread ∷ []
+
+-- an element's price at levels 1 to 8, whose words stand at 0 to 7
+abbrev pub element_rows : List ℕ → (ℕ → ℤ) × (ℕ → ℤ) → List Reply
+element_rows name price = flat_map (λ k. level_row name (k + 1) (price.0 k) (price.1 k)) (range_with_len 0 8)
+
+-- the price of each element, by its name
+abbrev pub price_rows : List (List ℕ) → List ((ℕ → ℤ) × (ℕ → ℤ)) → List Reply
+price_rows names prices = flat_map (λ e. element_rows e.0 e.1) (zip names prices)
+
+-- a best schedule with its class totals, its quantities, and the prices that show it best
+abbrev pub solved_rows : Posed → List ℕ → List ((ℕ → ℤ) × (ℕ → ℤ)) → List Reply
+solved_rows q schedule prices = best_rows q.asked schedule ++ sched_rows schedule ++ price_rows (names_of q.pipeline) prices
+
+-- the members of a kind that are inside, by name, in order of entry
+abbrev pub inside_rows : Member → List (List ℕ) → List Bool → List Reply
+inside_rows kind names inside = map (λ name. reply.Inside kind name) (items_where_true inside names)
+
+-- a cut's excess, and what is inside: places, then points, then pools
+abbrev pub cut_rows : Pipeline → Members → ℕ → List Reply
+cut_rows p cut excess =
+    reply.Cut excess ∷ []
+    ++ inside_rows member.Place p.places cut.places
+    ++ inside_rows member.Point (map (λ e. e.0) p.points) cut.points
+    ++ inside_rows member.Pool (map (λ e. e.0) p.pools) cut.pools

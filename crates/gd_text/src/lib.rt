@@ -6,6 +6,7 @@ mod members;
 mod prices;
 mod replies;
 mod reply;
+mod solved;
 mod values;
 
 pub use calendar::{calendar_replies, day_of};
@@ -13,4 +14,8 @@ pub use members::{MemberTable, members_of};
 pub use prices::{PriceTable, prices_of};
 pub use replies::{allowed_replies, best_replies, broken_reply, cut_fault_reply, fault_reply};
 pub use reply::{InputFault, Reply};
+pub use solved::{cut_replies, solved_replies};
 pub use values::{Asked, asked_of};
+
+#[cfg(test)]
+mod tests;

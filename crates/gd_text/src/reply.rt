@@ -1,7 +1,7 @@
 ghost use Rattle.std.specs.Prelude.{Some};
-ghost use Rattle.gd_text.specs.Lines.{fault_name, line_of};
+ghost use Rattle.gd_text.specs.Lines.{fault_name, line_of, spread_field};
 
-use gd_text_part::Cause;
+use gd_text_part::{Cause, Member};
 use gd_units::Name;
 use std::fmt;
 
@@ -48,6 +48,17 @@ pub enum Reply {
     NotCut,
     /// The total of a class, in dekatherms a gas day.
     Total(u64, u64),
+    /// The quantity of a line, counted from 1, in dekatherms a gas day.
+    Sched(u64, u64),
+    /// The two words of an element's price at a level, 1 to 8: what a dekatherm is worth, and what the spread adds.
+    Price {
+        element: Name,
+        level: u64,
+        word: i128,
+        spread: i128,
+    },
+    /// A member of a cut's set.
+    Inside(Member, Name),
     /// The date is none of the gas days that there are.
     OutOfRange,
     /// The zone gives the gas day no calendar.
@@ -85,6 +96,23 @@ impl fmt::Display for InputFault {
     }
 }
 
+// A word of the spread as a field, which is empty where the word is 0.
+#[derive(Clone, Copy)]
+struct SpreadField(i128);
+
+impl fmt::Display for SpreadField {
+    ghost output = { λ s. Some (spread_field s.0) };
+
+    fn fmt<W: fmt::Write>(&self, f: &mut fmt::Formatter<W>) -> fmt::Result {
+        let spread = self.0;
+        if spread == 0 {
+            f.write_str("")
+        } else {
+            write!(f, "{spread}")
+        }
+    }
+}
+
 impl fmt::Display for Reply {
     ghost output = { λ r. Some (line_of r) };
 
@@ -106,6 +134,19 @@ impl fmt::Display for Reply {
             Reply::Cut(excess) => write!(f, "cut,{excess},,,,,,\n"),
             Reply::NotCut => f.write_str("broken,NotCut,,,,,,\n"),
             Reply::Total(class, quantity) => write!(f, "total,{class},{quantity},,,,,\n"),
+            Reply::Sched(line, quantity) => write!(f, "sched,{line},{quantity},,,,,\n"),
+            Reply::Price {
+                element,
+                level,
+                word,
+                spread,
+            } => {
+                let spread = SpreadField(*spread);
+                write!(f, "price,{element},{level},{word},{spread},,,\n")
+            }
+            Reply::Inside(Member::Place, name) => write!(f, "inside,place,{name},,,,,\n"),
+            Reply::Inside(Member::Point, name) => write!(f, "inside,point,{name},,,,,\n"),
+            Reply::Inside(Member::Pool, name) => write!(f, "inside,pool,{name},,,,,\n"),
             Reply::OutOfRange => f.write_str("refused,calendar,1,OutOfRange,,,,\n"),
             Reply::BadZone => f.write_str("refused,calendar,2,BadZone,,,,\n"),
             Reply::Cycle {

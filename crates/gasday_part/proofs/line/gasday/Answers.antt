@@ -6,4 +6,5 @@ use Rattle.gasday_part.proofs.line.gasday.Goals as goal
 pub returns : goal.returns
 returns c =
     let checks : app_of c.in_ok-with_check.with_check ≡ _ = c.in_ok-with_check.ensures.shape c.in_ok-check.ensures.local ∙ ap₂ with_subcommand c.bare.ensures (ap (λ (a : App). a.top) c.in_ok-check.ensures.app) in
-    IfOk-weaker c.subcommand-2.result _ _ (λ r h. h.shape c.calendar.ensures.local ∙ ap₂ with_subcommand checks (ap (λ (a : App). a.top) c.calendar.ensures.app)) c.subcommand-2.ensures
+    let solves : app_of c.in_ok-with_solve.with_solve ≡ _ = c.in_ok-with_solve.ensures.shape c.solve.ensures.local ∙ ap₂ with_subcommand checks (ap (λ (a : App). a.top) c.solve.ensures.app) in
+    IfOk-weaker c.subcommand-3.result _ _ (λ r h. h.shape c.calendar.ensures.local ∙ ap₂ with_subcommand solves (ap (λ (a : App). a.top) c.calendar.ensures.app)) c.subcommand-3.ensures

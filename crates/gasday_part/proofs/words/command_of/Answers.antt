@@ -41,3 +41,13 @@ pub returns-clause-check_cut : goal.returns-clause-check_cut
 returns-clause-check_cut g c h =
     let words = map g.S.AsStr.text c.args.words.now in
     forms.is_command _ _ _ _ (forms.check_cut words h) (forms.check_cut_is words h) c.command_by_clap.ensures.meaning c.command_by_clap.ensures.taken
+
+pub returns-clause-solve : goal.returns-clause-solve
+returns-clause-solve g c h =
+    let words = map g.S.AsStr.text c.args.words.now in
+    forms.is_command _ _ _ _ (forms.solve words h) (forms.solve_is words h) c.command_by_clap.ensures.meaning c.command_by_clap.ensures.taken
+
+pub returns-clause-help_of_solve : goal.returns-clause-help_of_solve
+returns-clause-help_of_solve g c h =
+    let words = map g.S.AsStr.text c.args.words.now in
+    forms.is_help _ words (forms.help_of_solve words h) c.command_by_clap.ensures.faultless c.command_by_clap.ensures.faults

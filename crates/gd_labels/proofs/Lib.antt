@@ -1,0 +1,7 @@
+pub mod Order
+pub mod Chains
+pub mod Apart
+pub mod Trails
+pub mod Raise
+pub mod Roots
+pub mod Operands

@@ -1,0 +1,4 @@
+pub mod Links
+pub mod Found
+pub mod Events
+pub mod Searches

@@ -1,0 +1,164 @@
+-- Walks of links, as walks of steps.
+use Rattle.std.proofs.Common.{◌≡◌, ℕ, zero, suc, ◌-◌, ◌^◌, ◌<◌, List, [], ◌∷◌, ◌++◌, length, map, get_or, cond, to_z, of_z, to_z-of_z, refl, sym, ap, ◌∙◌, subst, arith, inl, inr}
+use Rattle.std.specs.Prelude.{ℤ, pos, ◌≤ℤ◌, ◌<ℤ◌, fold, FitsSigned}
+use Rattle.std.specs.Int.{int_min, w64}
+use Rattle.std.proofs.lemmas.Bool.{cases_lt}
+use Rattle.std.proofs.lemmas.Int.{clamps, fold-int_min_bounds}
+use Rattle.std.proofs.lemmas.List.{reverse-append, length-reverse, length-map, get_or-reverse, get_or-map, get_or_past}
+use lib.Signed.{mag}
+use borrow.Author.Differences.{ints}
+use Rattle.gd_rules.specs.Scale.{Scale, IsLawful, IsAbove}
+use Rattle.gd_network.specs.Arcs.{Net, from_at, to_at}
+use Rattle.gd_network.specs.Begun.{AreSound}
+use Rattle.gd_network.specs.Flow.{flow_at}
+use Rattle.gd_walks.specs.declared.Step.{Step}
+use Rattle.gd_walks.specs.Steps.{tail_of, head_of, room, Follows, AreSteps, Once, HasRooms}
+use Rattle.gd_labels.specs.Links.{node_at, Trail, gain_of, EndsOnce}
+use Rattle.gd_labels.specs.Found.{IsGaining}
+use Rattle.gd_mincost.specs.Gains.{gained}
+use Rattle.gd_mincost.specs.Residual.{IsFeasible, AreLinked, step_at}
+use Rattle.gd_mincost.specs.Closed.{steps_along, least_room}
+use Rattle.gd_mincost.proofs.Value.{walk_gain, gain_push}
+
+-- the last link's step stands last
+along_more : (steps : List Step) (i : ℕ) (walk : List ℕ) → steps_along steps (i ∷ walk) ≡ steps_along steps walk ++ step_at steps i ∷ []
+along_more steps i walk = reverse-append (step_at steps i ∷ []) (map (step_at steps) walk)
+
+pub along_length : (steps : List Step) (walk : List ℕ) → length (steps_along steps walk) ≡ length walk
+along_length steps walk = length-reverse (map (step_at steps) walk) ∙ length-map walk (step_at steps)
+
+pub along_at : (steps : List Step) (walk : List ℕ) (k : ℕ) (d : Step) → k < length walk → get_or (steps_along steps walk) k d ≡ step_at steps (node_at walk (length walk - 1 - k))
+along_at steps walk k d h =
+    let size : length (map (step_at steps) walk) ≡ length walk = length-map walk (step_at steps) in
+    let back : length walk - 1 - k < length walk = omega arith in
+    get_or-reverse (map (step_at steps) walk) k d (omega (arith, size))
+    ∙ ap (λ m. get_or (map (step_at steps) walk) (m - 1 - k) d) size
+    ∙ get_or-map (step_at steps) walk (length walk - 1 - k) 0 d back
+
+follows_push : (n : Net) (walk : List Step) (step : Step) (a b c : ℕ) → Follows n a walk b → step.arc < length n → tail_of n step ≡ b → head_of n step ≡ c → Follows n a (walk ++ step ∷ []) c
+follows_push n [] step a b c h arc tail head = (arc, tail ∙ sym h, head)
+follows_push n (t ∷ walk) step a b c h arc tail head = (h.0, h.1, follows_push n walk step (head_of n t) b c h.2 arc tail head)
+
+pub trail_in : (from to : List ℕ) (a b : ℕ) (walk : List ℕ) → Trail from to a walk b → (k : ℕ) → k < length walk → node_at walk k < length from
+trail_in from to a b [] t k h = absurd (omega arith)
+trail_in from to a b (i ∷ walk) t zero h = t.0
+trail_in from to a b (i ∷ walk) t (suc k) h = trail_in from to a (node_at from i) walk t.2 k (omega arith)
+
+module _ {V : Type 0} (s : Scale V) (n : Net) (flow : List ℤ) (gains : List V) (from to : List ℕ) (gain : List V) (steps : List Step) (linked : AreLinked s n flow gains from to gain steps) where
+  pub follows : (a b : ℕ) (walk : List ℕ) → Trail from to a walk b → Follows n a (steps_along steps walk) b
+  follows a b [] t = t
+  follows a b (i ∷ walk) t =
+      let link = linked.each i t.0 in
+      subst (λ w. Follows n a w b) (sym (along_more steps i walk))
+      (follows_push n (steps_along steps walk) (step_at steps i) a (node_at from i) b (follows a (node_at from i) walk t.2) link.arc (sym link.begins) (sym link.leads ∙ t.1))
+
+  pub walk_gains : (l : IsLawful s) (a b : ℕ) (walk : List ℕ) → Trail from to a walk b → gain_of s gain walk ≡ walk_gain s l gains (steps_along steps walk)
+  walk_gains l a b [] t = refl
+  walk_gains l a b (i ∷ walk) t =
+      ap (λ x. s.plus x (gain_of s gain walk)) (linked.each i t.0).gain_is
+      ∙ ap (s.plus (gained s gains (step_at steps i))) (walk_gains l a (node_at from i) walk t.2)
+      ∙ sym (gain_push s l gains (steps_along steps walk) (step_at steps i))
+      ∙ ap (walk_gain s l gains) (sym (along_more steps i walk))
+
+  module _ (a b : ℕ) (walk : List ℕ) (t : Trail from to a walk b) where
+    place : (k : ℕ) → k < length (steps_along steps walk) → length walk - 1 - k < length walk
+    place k h = let e = along_length steps walk in omega (arith, e, h)
+
+    -- the link at the place of a step
+    link_in : (k : ℕ) → k < length (steps_along steps walk) → node_at walk (length walk - 1 - k) < length from
+    link_in k h = trail_in from to a b walk t (length walk - 1 - k) (place k h)
+
+    at_place : (k : ℕ) (d : Step) → k < length (steps_along steps walk) → get_or (steps_along steps walk) k d ≡ step_at steps (node_at walk (length walk - 1 - k))
+    at_place k d h = along_at steps walk k d (subst (λ m. k < m) (along_length steps walk) h)
+
+    pub are_steps : AreSteps n (steps_along steps walk)
+    are_steps k d h = subst (λ (x : Step). x.arc < length n) (sym (at_place k d h)) (linked.each (node_at walk (length walk - 1 - k)) (link_in k h)).arc
+
+    pub have_room : (k : ℕ) (d : Step) → k < length (steps_along steps walk) → pos 0 <ℤ room n flow (get_or (steps_along steps walk) k d)
+    have_room k d h = subst (λ (x : Step). pos 0 <ℤ room n flow x) (sym (at_place k d h)) (linked.each (node_at walk (length walk - 1 - k)) (link_in k h)).has_room
+
+    same_head : (x y : Step) → x.arc ≡ y.arc → x.back ≡ y.back → head_of n x ≡ head_of n y
+    same_head x y e f = ap (λ r. cond r (from_at n x.arc) (to_at n x.arc)) f ∙ ap (λ r. cond y.back (from_at n r) (to_at n r)) e
+
+    pub once : EndsOnce to walk → Once (steps_along steps walk)
+    once ends j k d before h arc back =
+        let e = along_length steps walk in
+        let j_in : j < length (steps_along steps walk) = omega (arith, before, h) in
+        let p : ℕ = node_at walk (length walk - 1 - j) in
+        let q : ℕ = node_at walk (length walk - 1 - k) in
+        let heads : head_of n (step_at steps p) ≡ head_of n (step_at steps q) =
+        subst (λ (x : Step). head_of n (step_at steps p) ≡ head_of n x) (at_place k d h)
+        (subst (λ (x : Step). head_of n x ≡ head_of n (get_or (steps_along steps walk) k d)) (at_place j d j_in) (same_head (get_or (steps_along steps walk) j d) (get_or (steps_along steps walk) k d) arc back)) in
+        ends (length walk - 1 - k) (length walk - 1 - j) (omega (arith, before, h, e)) (omega (arith, before, h, e))
+        ((linked.each q (link_in k h)).leads ∙ sym heads ∙ sym (linked.each p (link_in j j_in)).leads)
+
+-- ---- the least room
+
+pub has_rooms : (n : Net) (flow : List ℤ) (walk : List Step) → HasRooms n flow walk (least_room n flow walk)
+has_rooms n flow walk k d h =
+    let size : length (map (room n flow) walk) ≡ length walk = length-map walk (room n flow) in
+    subst (λ z. least_room n flow walk ≤ℤ z) (get_or-map (room n flow) walk k d (pos 0) h)
+    ((fold-int_min_bounds (pos (2 ^ 62)) (map (room n flow) walk) (least_room n flow walk) refl).1 k (pos 0) (omega (arith, size, h)))
+
+min_some : (x y : ℤ) → pos 1 ≤ℤ x → pos 0 <ℤ y → pos 1 ≤ℤ int_min x y
+min_some x y h k = omega (arith, ints, clamps)
+
+some_from : (n : Net) (flow : List ℤ) (walk : List Step) (x : ℤ) → pos 1 ≤ℤ x → ((k : ℕ) (d : Step) → k < length walk → pos 0 <ℤ room n flow (get_or walk k d)) → pos 1 ≤ℤ fold int_min x (map (room n flow) walk)
+some_from n flow [] x h rooms = h
+some_from n flow (step ∷ walk) x h rooms = some_from n flow walk (int_min x (room n flow step)) (min_some x (room n flow step) h (rooms 0 step (omega arith))) (λ k d g. rooms (suc k) d (omega arith))
+
+pub some_room : (n : Net) (flow : List ℤ) (walk : List Step) → ((k : ℕ) (d : Step) → k < length walk → pos 0 <ℤ room n flow (get_or walk k d)) → pos 1 ≤ℤ least_room n flow walk
+some_room n flow walk rooms = some_from n flow walk (pos (2 ^ 62)) (omega (arith, ints)) rooms
+
+amount_fits : (z : ℤ) → pos 0 ≤ℤ z → z ≤ℤ pos 1000000000 → FitsSigned w64 z
+amount_fits z low high = omega (arith, ints)
+
+nothing_fits : FitsSigned w64 (pos 0)
+nothing_fits = amount_fits (pos 0) (omega (arith, ints)) (omega (arith, ints))
+
+pub flow_fits : (nodes : ℕ) (n : Net) (flow : List ℤ) → AreSound nodes n → IsFeasible n flow → (a : ℕ) → FitsSigned w64 (flow_at flow a)
+flow_fits nodes n flow sound f a = elim (cases_lt a (length n)) [
+  | inl h ↦
+      amount_fits (flow_at flow a) (let p = sound.lower a h in let q = f.bounds.above a h in omega (arith, ints)) (let p = sound.upper a h in let q = f.bounds.below a h in omega (arith, ints))
+  | inr h ↦ subst (FitsSigned w64) (sym (get_or_past flow a (pos 0) (let e = f.size in omega (arith, e, h)))) nothing_fits
+]
+
+-- what the code's copies of a walk and an amount are
+pub along_is : (steps held : List Step) (walk : List ℕ) (got along : List Step) → held ≡ steps → got ≡ steps_along held walk → along ≡ got → along ≡ steps_along steps walk
+along_is steps held walk got along a b c = c ∙ (b ∙ ap (λ xs. steps_along xs walk) a)
+
+pub amount_is : (n : Net) (flow : List ℤ) (got first along : List Step) (z : ℤ) → mag z < 2 ^ 63 → z ≡ least_room n flow first → first ≡ got → along ≡ got → to_z w64 (of_z w64 z) ≡ least_room n flow along
+amount_is n flow got first along z small e a b = (let fits : FitsSigned w64 z = record { sfits = small } in to_z-of_z fits) ∙ (e ∙ ap (least_room n flow) (a ∙ sym b))
+
+-- What a push asks of a closed walk and an amount.
+pub record CanPush (n : Net) (flow : List ℤ) (walk : List Step) (amount : ℤ) : Type 0 where
+  pub steps : AreSteps n walk
+  pub rooms : HasRooms n flow walk amount
+  pub once : Once walk
+  pub some : pos 1 ≤ℤ amount
+  pub low : pos 0 ≤ℤ amount
+
+pub can_push : {V : Type 0} (s : Scale V) (n : Net) (flow : List ℤ) (gains : List V) (from to : List ℕ) (gain : List V) (steps : List Step) → AreLinked s n flow gains from to gain steps → (walk : List ℕ) (g : IsGaining s from to gain walk) (along : List Step) (amount : ℤ)
+    → along ≡ steps_along steps walk → amount ≡ least_room n flow along → CanPush n flow along amount
+can_push s n flow gains from to gain steps linked walk g along amount e f =
+    let all : (k : ℕ) (d : Step) → k < length along → pos 0 <ℤ room n flow (get_or along k d) =
+    subst (λ w. (k : ℕ) (d : Step) → k < length w → pos 0 <ℤ room n flow (get_or w k d)) (sym e) (have_room s n flow gains from to gain steps linked g.node g.node walk g.closed) in
+    let above : pos 1 ≤ℤ amount = subst (λ z. pos 1 ≤ℤ z) (sym f) (some_room n flow along all) in
+    record {
+      steps = subst (AreSteps n) (sym e) (are_steps s n flow gains from to gain steps linked g.node g.node walk g.closed);
+      rooms = subst (HasRooms n flow along) (sym f) (has_rooms n flow along);
+      once = subst Once (sym e) (once s n flow gains from to gain steps linked g.node g.node walk g.closed g.once);
+      some = above;
+      low = omega (arith, ints, above);
+    }
+
+pub along_follows : {V : Type 0} (s : Scale V) (n : Net) (flow : List ℤ) (gains : List V) (from to : List ℕ) (gain : List V) (steps : List Step) → AreLinked s n flow gains from to gain steps → (walk : List ℕ) (g : IsGaining s from to gain walk) (along : List Step)
+    → along ≡ steps_along steps walk → Follows n g.node along g.node
+along_follows s n flow gains from to gain steps linked walk g along e = subst (λ w. Follows n g.node w g.node) (sym e) (follows s n flow gains from to gain steps linked g.node g.node walk g.closed)
+
+-- the walk of steps gains as that of links does
+pub along_gains : {V : Type 0} (s : Scale V) (l : IsLawful s) (n : Net) (flow : List ℤ) (gains : List V) (from to : List ℕ) (gain : List V) (steps : List Step) → AreLinked s n flow gains from to gain steps → (walk : List ℕ) → IsGaining s from to gain walk → (along : List Step)
+    → along ≡ steps_along steps walk → IsAbove s (walk_gain s l gains along) s.none
+along_gains s l n flow gains from to gain steps linked walk g along e =
+    subst (λ w. IsAbove s (walk_gain s l gains w) s.none) (sym e)
+    (subst (λ x. IsAbove s x s.none) (walk_gains s n flow gains from to gain steps linked l g.node g.node walk g.closed) g.gains)

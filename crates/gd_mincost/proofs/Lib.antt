@@ -1,0 +1,5 @@
+pub mod Value
+pub mod Links
+pub mod Along
+pub mod Shown
+pub mod Table

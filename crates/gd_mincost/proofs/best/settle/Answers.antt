@@ -1,0 +1,20 @@
+use Rattle.std.proofs.Common.{ℕ, ◌+◌, List, length, map, sym, ◌∙◌, subst}
+use Rattle.gd_mincost.specs.Closed.{AreShown}
+use Rattle.gd_mincost.specs.Settled.{IsSettled}
+use Rattle.gd_mincost.proofs.Shown.{is_settled, written}
+use Rattle.gd_mincost.proofs.best.settle.Goals as goal
+
+pub returns-clause-settled : goal.returns-clause-settled
+returns-clause-settled g c =
+    let s = g.C.Cost.scale in
+    let f = g.C.Cost.meaning in
+    let unit : ℕ → ℕ → g.C.Cost.Meaning = λ class tenth. f (g.C.ByClass.at class tenth) in
+    let q = c.into_parts-network.result.0.question.asked in
+    let n = c.into_parts-network.result.0.arcs in
+    let labels : List g.C.Cost.Meaning = map f c.in_ok-potentials.potentials.items in
+    let gains = c.in_ok-gains.gains.items in
+    let flow = c.rise.new.flow in
+    let back = c.of.ensures ∙ written flow c.into_amounts-amounts.result.items c.into_amounts-amounts.result.len (c.rise.auto.flow ∙ c.deref_mut.ensures.len) in
+    subst (λ xs. IsSettled s g.C.Cost.within unit q n xs labels) (sym back)
+    (is_settled s g.C.Cost.within unit q n flow (map f gains) labels c.in_ok-potentials.ensures.feasible c.in_ok-gains.ensures.each
+    (subst (λ (xs : List g.row.C.Denot). AreShown s g.C.Cost.within (length q.elements + 1) n flow (map f xs) labels) c.deref.ensures.value c.in_ok-potentials.ensures.shown))

@@ -1,0 +1,80 @@
+use Rattle.std.proofs.Common.{◌≡◌, ◌+◌, ◌<◌, List, length, map, sym, subst, to_z, of_z}
+use Rattle.std.specs.Int.{w64}
+use Rattle.gd_rules.specs.Scale.{IsAbove}
+use Rattle.gd_walks.specs.declared.Step.{Step}
+use Rattle.gd_walks.specs.Steps.{AreSteps}
+use Rattle.gd_labels.specs.Links.{node_at}
+use Rattle.gd_mincost.specs.Gains.{value}
+use Rattle.gd_mincost.specs.Closed.{steps_along, least_room}
+use Rattle.gd_mincost.proofs.Along.{CanPush, can_push, along_is, amount_is, along_gains, along_follows, trail_in, are_steps, flow_fits}
+use Rattle.gd_mincost.proofs.Value.{push_rises}
+use Rattle.gd_mincost.proofs.walk.push_closed.Goals as goal
+
+pub steps_along-requires : goal.steps_along-requires
+steps_along-requires g c = λ k h.
+    let r = c.args.residual.now in
+    let w = c.requires.closed in
+    subst (λ (xs : List Step). node_at c.args.walk.now k < length xs) (sym c.deref.ensures.value)
+    (subst (λ m. node_at c.args.walk.now k < m) (sym c.requires.sound.step_count) (trail_in r.links.from.items r.links.to.items w.node w.node c.args.walk.now w.closed k h))
+
+pub least_room-amount-requires-clause-steps : goal.least_room-amount-requires-clause-steps
+least_room-amount-requires-clause-steps g c =
+    let n = c.args.network.now.arcs in
+    let r = c.args.residual.now in
+    let w = c.requires.closed in
+    let is : c.deref-2.result.now ≡ steps_along r.steps.items c.args.walk.now = along_is r.steps.items c.deref.result.now c.args.walk.now c.in_ok-along.along.items c.deref-2.result.now c.deref.ensures.value c.in_ok-along.ensures c.deref-2.ensures.value in
+    subst (AreSteps n) (sym is)
+    (are_steps g.C.Cost.scale n c.args.flow.now (map g.C.Cost.meaning c.args.gains.now) r.links.from.items r.links.to.items (map g.C.Cost.meaning r.links.gain.items) r.steps.items c.requires.sound w.node w.node c.args.walk.now w.closed)
+
+pub push-requires-clause-fits : goal.push-requires-clause-fits
+push-requires-clause-fits g c = flow_fits (length c.args.network.now.question.asked.elements + 1) c.args.network.now.arcs c.args.flow.now c.known.ensures.sound c.requires.feasible
+
+can : (g : _) (c : goal.After-deref-3 g) → CanPush c.args.network.now.arcs c.args.flow.now c.deref-3.result.now (to_z w64 (of_z w64 c.least_room-amount.result))
+can g c =
+    let n = c.args.network.now.arcs in
+    let r = c.args.residual.now in
+    let is : c.deref-3.result.now ≡ steps_along r.steps.items c.args.walk.now = along_is r.steps.items c.deref.result.now c.args.walk.now c.in_ok-along.along.items c.deref-3.result.now c.deref.ensures.value c.in_ok-along.ensures c.deref-3.ensures.value in
+    let amount : to_z w64 (of_z w64 c.least_room-amount.result) ≡ least_room n c.args.flow.now c.deref-3.result.now =
+    amount_is n c.args.flow.now c.in_ok-along.along.items c.deref-2.result.now c.deref-3.result.now c.least_room-amount.result c.least_room-amount.type_inv c.least_room-amount.ensures c.deref-2.ensures.value c.deref-3.ensures.value in
+    can_push g.C.Cost.scale n c.args.flow.now (map g.C.Cost.meaning c.args.gains.now) r.links.from.items r.links.to.items (map g.C.Cost.meaning r.links.gain.items) r.steps.items c.requires.sound c.args.walk.now c.requires.closed
+    c.deref-3.result.now (to_z w64 (of_z w64 c.least_room-amount.result)) is amount
+
+pub push-requires-clause-amount : goal.push-requires-clause-amount
+push-requires-clause-amount g c = (can g c).low
+
+pub push-requires-clause-steps : goal.push-requires-clause-steps
+push-requires-clause-steps g c = (can g c).steps
+
+pub push-requires-clause-rooms : goal.push-requires-clause-rooms
+push-requires-clause-rooms g c = (can g c).rooms
+
+pub push-requires-clause-once : goal.push-requires-clause-once
+push-requires-clause-once g c = (can g c).once
+
+pub returns-clause-feasible : goal.returns-clause-feasible
+returns-clause-feasible g c =
+    let n = c.args.network.now.arcs in
+    let r = c.args.residual.now in
+    let is : c.deref-3.result.now ≡ steps_along r.steps.items c.args.walk.now = along_is r.steps.items c.deref.result.now c.args.walk.now c.in_ok-along.along.items c.deref-3.result.now c.deref.ensures.value c.in_ok-along.ensures c.deref-3.ensures.value in
+    record {
+      size = c.push.ensures.size;
+      balances = c.push.ensures.balances c.requires.closed.node
+          (along_follows g.C.Cost.scale n c.args.flow.now (map g.C.Cost.meaning c.args.gains.now) r.links.from.items r.links.to.items (map g.C.Cost.meaning r.links.gain.items) r.steps.items c.requires.sound c.args.walk.now c.requires.closed c.deref-3.result.now is)
+          c.requires.feasible.balances;
+      bounds = c.push.ensures.within c.requires.feasible.bounds;
+    }
+
+pub returns-clause-rises : goal.returns-clause-rises
+returns-clause-rises g c =
+    let s = g.C.Cost.scale in
+    let l = g.met.C.Cost.lawful in
+    let n = c.args.network.now.arcs in
+    let flow = c.args.flow.now in
+    let gains = map g.C.Cost.meaning c.args.gains.now in
+    let r = c.args.residual.now in
+    let is : c.deref-3.result.now ≡ steps_along r.steps.items c.args.walk.now = along_is r.steps.items c.deref.result.now c.args.walk.now c.in_ok-along.along.items c.deref-3.result.now c.deref.ensures.value c.in_ok-along.ensures c.deref-3.ensures.value in
+    let amount : to_z w64 (of_z w64 c.least_room-amount.result) ≡ least_room n flow c.deref-3.result.now =
+    amount_is n flow c.in_ok-along.along.items c.deref-2.result.now c.deref-3.result.now c.least_room-amount.result c.least_room-amount.type_inv c.least_room-amount.ensures c.deref-2.ensures.value c.deref-3.ensures.value in
+    let can = can_push s n flow gains r.links.from.items r.links.to.items (map g.C.Cost.meaning r.links.gain.items) r.steps.items c.requires.sound c.args.walk.now c.requires.closed c.deref-3.result.now (to_z w64 (of_z w64 c.least_room-amount.result)) is amount in
+    push_rises s l gains n c.deref-3.result.now flow c.push.new.flow (to_z w64 (of_z w64 c.least_room-amount.result)) c.requires.feasible.size can.steps can.some
+    (along_gains s l n flow gains r.links.from.items r.links.to.items (map g.C.Cost.meaning r.links.gain.items) r.steps.items c.requires.sound c.args.walk.now c.requires.closed c.deref-3.result.now is) c.push.ensures.pushed

@@ -1,0 +1,4 @@
+pub mod Settled
+pub mod Gains
+pub mod Residual
+pub mod Closed

@@ -1,0 +1,106 @@
+//! A feasible flow made best.
+
+ghost use Rattle.std.specs.Prelude.{◌≡◌, ◌+◌, length, map, IfOk, OnOk};
+ghost use Rattle.gd_mincost.specs.Settled.{IsSettled};
+ghost use Rattle.gd_mincost.specs.Gains.{AreGains};
+ghost use Rattle.gd_mincost.specs.Residual.{IsFeasible};
+ghost use Rattle.gd_mincost.specs.Closed.{AreShown};
+
+use crate::gains::gains;
+use crate::residual::Residual;
+use crate::walk::push_closed;
+use gd_cost::{ByClass, Cost};
+use gd_flow::Feasible;
+use gd_labels::{Found, potentials};
+use gd_network::{Flow, Network};
+use std::alloc::{AllocError, Global};
+use std::marker::Model;
+
+/// A flow that balances within bounds, and a potential for each node, under which no arc with room gains by this cost.
+///
+/// A contract sees the question, the arcs, the amounts and the potentials.
+#[derive(Drop)]
+pub struct Best<'q, C: Cost> {
+    network: Network<'q>,
+    flow: Flow,
+    potentials: Vec<C>,
+}
+
+impl<'q, C: Cost> Model for Best<'q, C> {
+    ghost use Rattle.gd_mincost.specs.Settled.{Settled};
+
+    ghost Value = { Settled C };
+
+    ghost view = { λ b. record { question = b.network.question; arcs = b.network.arcs; flow = b.flow; potentials = b.potentials.items } };
+}
+
+impl<'q, C: Cost> Best<'q, C> {
+    /// The network.
+    pub fn network(&self) -> &Network<'q>
+        ensures question { result.now.question ≡ self.now.question }
+        ensures arcs { result.now.arcs ≡ self.now.arcs }
+    {
+        &self.network
+    }
+
+    /// The flow.
+    pub fn flow(&self) -> &Flow
+        ensures { result.now ≡ self.now.flow }
+    {
+        &self.flow
+    }
+
+    /// The potentials, by the nodes' numbers.
+    pub fn potentials(&self) -> &[C]
+        ensures { result.now ≡ self.now.potentials }
+    {
+        self.potentials.as_slice()
+    }
+}
+
+/// Pushes along closed walks that gain until there is none (Klein), and answers potentials that show it.
+///
+/// What the flow is worth rises at each push.
+fn rise<C: Cost>(
+    alloc: Global,
+    network: &Network<'_>,
+    gains: &[C],
+    flow: &mut [i64],
+) -> Result<Vec<C>, AllocError>
+    requires gains { AreGains C.scale C.within (length network.now.arcs) (map C.meaning gains.now) }
+    requires feasible { IsFeasible network.now.arcs flow.old }
+    ensures feasible { OnOk result (IsFeasible network.now.arcs flow.new) }
+    ensures shown { IfOk result (λ labels. AreShown C.scale C.within (length network.now.question.asked.elements + 1) network.now.arcs flow.new (map C.meaning gains.now) (map C.meaning labels.items)) }
+{
+    network.known();
+    loop {
+        let residual = Residual::of(alloc, network, gains, flow)?;
+        match potentials(alloc, &residual.links, network.node_count())? {
+            Found::Labels(labels) => return Ok(labels),
+            Found::Closed(walk) => push_closed(alloc, network, &residual, gains, flow, &walk)?,
+        }
+    }
+}
+
+/// Makes a feasible flow best by a cost, with potentials that show it. The only error is want of memory.
+///
+/// The value of a flow is what its lines' dekatherms are worth together, by class and tenth.
+pub fn settle<'q, C: ByClass>(
+    alloc: Global,
+    feasible: Feasible<'q>,
+) -> Result<Best<'q, C>, AllocError>
+    ensures question { IfOk result (λ best. best.question ≡ feasible.entry.question) }
+    ensures arcs { IfOk result (λ best. best.arcs ≡ feasible.entry.arcs) }
+    ensures settled { IfOk result (λ best. IsSettled C.scale C.within (λ class tenth. C.meaning (C.at class tenth)) best.question.asked best.arcs best.flow (map C.meaning best.potentials)) }
+{
+    feasible.known();
+    let (network, flow) = feasible.into_parts();
+    let gains = gains(alloc, &network)?;
+    let mut amounts = flow.into_amounts();
+    let potentials = rise(alloc, &network, &gains, &mut amounts)?;
+    Ok(Best {
+        network,
+        flow: Flow::of(amounts),
+        potentials,
+    })
+}

@@ -1,0 +1,122 @@
+//! The links along which a flow can change.
+
+ghost use Rattle.std.specs.Prelude.{◌≡◌, ◌<◌, ◌++◌, ◌∷◌, [], pos, ◌<ℤ◌, length, map, IfOk, OnOk};
+ghost use Rattle.gd_network.specs.Flow.{IsWithin};
+ghost use Rattle.gd_walks.specs.Steps.{room};
+ghost use Rattle.gd_mincost.specs.Gains.{AreGains};
+ghost use Rattle.gd_mincost.specs.Residual.{IsSound, IsWhole, Holds, Keeps};
+
+use gd_cost::Cost;
+use gd_labels::Links;
+use gd_network::Network;
+use gd_walks::Step;
+use std::alloc::{AllocError, Global};
+
+/// The steps that a flow leaves room for, as links.
+#[derive(Drop)]
+pub(crate) struct Residual<C> {
+    /// The links, from node to node.
+    pub links: Links<C>,
+    /// The step of each link.
+    pub steps: Vec<Step>,
+}
+
+/// How much more a step can carry.
+pub(crate) fn room(network: &Network<'_>, flow: &[i64], step: Step) -> i64
+    requires arc { step.arc < length network.now.arcs }
+    requires size { length flow.now ≡ length network.now.arcs }
+    requires within { IsWithin network.now.arcs flow.now }
+    ensures { result ≡ room network.now.arcs flow.now step }
+{
+    network.known();
+    let arc = network.arc(step.arc);
+    let amount = flow[step.arc];
+    if step.back {
+        amount - arc.lower
+    } else {
+        arc.upper - amount
+    }
+}
+
+impl<C: Cost> Residual<C> {
+    /// No links.
+    fn none(alloc: Global) -> Residual<C>
+        ensures from { result.links.from.items ≡ [] }
+        ensures to { result.links.to.items ≡ [] }
+        ensures gain { result.links.gain.items ≡ [] }
+        ensures steps { result.steps.items ≡ [] }
+    {
+        Residual {
+            links: Links {
+                from: Vec::new(alloc),
+                to: Vec::new(alloc),
+                gain: Vec::new(alloc),
+            },
+            steps: Vec::new(alloc),
+        }
+    }
+
+    /// Adds a link for a step.
+    fn link(&mut self, step: Step, from: usize, to: usize, gain: C) -> Result<(), AllocError>
+        ensures from { OnOk result (self.new.links.from.items ≡ self.old.links.from.items ++ from ∷ []) }
+        ensures to { OnOk result (self.new.links.to.items ≡ self.old.links.to.items ++ to ∷ []) }
+        ensures gain { OnOk result (self.new.links.gain.items ≡ self.old.links.gain.items ++ gain ∷ []) }
+        ensures steps { OnOk result (self.new.steps.items ≡ self.old.steps.items ++ step ∷ []) }
+    {
+        self.links.from.push(from)?;
+        self.links.to.push(to)?;
+        self.links.gain.push(gain)?;
+        self.steps.push(step)?;
+        Ok(())
+    }
+
+    /// Adds the link of a step, where the step has room.
+    fn add(
+        &mut self,
+        network: &Network<'_>,
+        gains: &[C],
+        flow: &[i64],
+        step: Step,
+    ) -> Result<(), AllocError>
+        requires arc { step.arc < length network.now.arcs }
+        requires gains { AreGains C.scale C.within (length network.now.arcs) (map C.meaning gains.now) }
+        requires size { length flow.now ≡ length network.now.arcs }
+        requires within { IsWithin network.now.arcs flow.now }
+        requires sound { IsSound C.scale C.meaning network.now.arcs flow.now (map C.meaning gains.now) self.old }
+        ensures sound { OnOk result (IsSound C.scale C.meaning network.now.arcs flow.now (map C.meaning gains.now) self.new) }
+        ensures kept { OnOk result (Keeps self.old.steps.items self.new.steps.items) }
+        ensures added { OnOk result (pos 0 <ℤ room network.now.arcs flow.now step → Holds self.new.steps.items step) }
+    {
+        if room(network, flow, step) <= 0 {
+            return Ok(());
+        }
+        let arc = network.arc(step.arc);
+        let gain = gains[step.arc];
+        if step.back {
+            self.link(step, arc.to, arc.from, C::zero().sub(gain))
+        } else {
+            self.link(step, arc.from, arc.to, gain)
+        }
+    }
+
+    /// The links of a flow within its bounds: along each arc that can carry more, and back along each that can carry less.
+    pub(crate) fn of(
+        alloc: Global,
+        network: &Network<'_>,
+        gains: &[C],
+        flow: &[i64],
+    ) -> Result<Residual<C>, AllocError>
+        requires gains { AreGains C.scale C.within (length network.now.arcs) (map C.meaning gains.now) }
+        requires size { length flow.now ≡ length network.now.arcs }
+        requires within { IsWithin network.now.arcs flow.now }
+        ensures sound { IfOk result (IsSound C.scale C.meaning network.now.arcs flow.now (map C.meaning gains.now)) }
+        ensures whole { IfOk result (λ residual. IsWhole network.now.arcs flow.now (length network.now.arcs) residual.steps.items) }
+    {
+        let mut residual = Residual::none(alloc);
+        for arc in 0..network.arc_count() {
+            residual.add(network, gains, flow, Step { arc, back: false })?;
+            residual.add(network, gains, flow, Step { arc, back: true })?;
+        }
+        Ok(residual)
+    }
+}

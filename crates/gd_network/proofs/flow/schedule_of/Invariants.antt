@@ -1,0 +1,5 @@
+use Rattle.gd_network.proofs.Summed.{Summed}
+use Rattle.gd_network.proofs.flow.schedule_of.Given as goal
+
+abbrev pub invariant-loop-line : goal.invariant-loop-line
+invariant-loop-line l = Summed l.question.asked l.flow l.line l.quantities.items

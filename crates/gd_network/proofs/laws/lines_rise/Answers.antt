@@ -1,0 +1,10 @@
+use Rattle.gd_rules.specs.Words.{whole, tariff}
+use Rattle.gd_rules.proofs.Words.{whole_lawful, tariff_lawful}
+use Rattle.gd_network.proofs.Telescope.{line_rise}
+use Rattle.gd_network.proofs.laws.lines_rise.Goals as goal
+
+pub returns-clause-numbers : goal.returns-clause-numbers
+returns-clause-numbers c = λ q i label h. line_rise whole whole_lawful label q i h
+
+pub returns-clause-worths : goal.returns-clause-worths
+returns-clause-worths c = λ q i label h. line_rise tariff tariff_lawful label q i h
