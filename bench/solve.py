@@ -1,7 +1,7 @@
 #!/usr/bin/env python3
 """Measures `PROGRAM solve`.
 
-    bench/solve.py PROGRAM [--seconds N] [--walks]
+    bench/solve.py PROGRAM [--only WORD] [--seconds N]
 
 Random questions of 200, 1,000 and 5,000 lines, made by generate.py, show the
 whole solver. The largest questions with fixed lines show the repair: where one
@@ -9,13 +9,9 @@ schedule is allowed the solver has nothing to choose after it, and where none is
 it ends with a cut. One run each; a run that takes longer than N seconds, else
 600, is ended. 1 MB is 1,000,000 bytes. Nothing is asserted about speed: the
 exit status is 1 only where the program answers wrongly.
-
-With --walks gdb counts, in a second run of each, how often an amount is pushed
-along a closed walk.
 """
 
 import argparse
-import re
 import subprocess
 import sys
 import tempfile
@@ -48,7 +44,7 @@ CASES = [
     Case("chain, none allowed", ["deep", "--short"], "cut"),
 ]
 
-# Runs a command for so many seconds at most, and tells its time and peak.
+# Runs a command for so many seconds at most, and tells its time by the clock and by the processor, and its peak.
 TIMED = """
 import resource, subprocess, sys, time
 begin = time.perf_counter()
@@ -56,52 +52,39 @@ try:
     status = subprocess.run(sys.argv[2:], timeout=float(sys.argv[1])).returncode
 except subprocess.TimeoutExpired:
     status = -1
-peak = resource.getrusage(resource.RUSAGE_CHILDREN).ru_maxrss
-print(time.perf_counter() - begin, peak, status, file=sys.stderr)
+used = resource.getrusage(resource.RUSAGE_CHILDREN)
+print(time.perf_counter() - begin, used.ru_utime + used.ru_stime, used.ru_maxrss, status, file=sys.stderr)
 """
 
 
 def timed(program, text, seconds):
-    """Seconds, peak in bytes, status (-1 where it was ended), first field."""
+    """Seconds by the clock and by the processor, peak in bytes, status (-1 where it was ended), first field."""
     words = [sys.executable, "-c", TIMED, str(seconds), program, "solve"]
     with open(text, "rb") as source:
         run = subprocess.run(words, stdin=source, capture_output=True)
-    took, peak, status = run.stderr.split()[-3:]
+    took, used, peak, status = run.stderr.split()[-4:]
     first = run.stdout.split(b",", 1)[0].decode()
-    return float(took), int(peak) * RSS_BYTES, int(status), first
-
-
-def walks(program, text):
-    """How often the program pushed, by a breakpoint that never stops it."""
-    with open(text, "rb") as source:
-        run = subprocess.run(
-            ["gdb", "-batch", "-ex", "rbreak push_closed", "-ex", "ignore 1 100000000",
-             "-ex", f"run solve < {text} > /dev/null", "-ex", "info breakpoints", program],
-            stdin=source, capture_output=True, text=True,
-        )
-    counted = re.search(r"already hit (\d+) time", run.stdout)
-    return counted.group(1) if counted else "?"
+    return float(took), float(used), int(peak) * RSS_BYTES, int(status), first
 
 
 def main():
     parser = argparse.ArgumentParser(description="Measures `PROGRAM solve`.")
     parser.add_argument("program", metavar="PROGRAM")
+    parser.add_argument("--only", default="", metavar="WORD", help="the questions named so")
     parser.add_argument("--seconds", type=float, default=600, metavar="N", help="else 600")
-    parser.add_argument("--walks", action="store_true", help="count the walks with gdb")
     arguments = parser.parse_args()
     wrong = 0
-    print(f"{'question':<22}{'rows':>8}{'seconds':>10}{'peak MB':>9}{'walks':>8}")
+    print(f"{'question':<22}{'rows':>8}{'seconds':>10}{'processor':>11}{'peak MB':>9}")
     with tempfile.TemporaryDirectory() as folder:
         text = Path(folder) / "question.csv"
-        for case in CASES:
+        for case in [case for case in CASES if arguments.only in case.name]:
             with open(text, "wb") as target:
                 subprocess.run([sys.executable, GENERATE, *case.words], stdout=target, check=True)
-            took, peak, status, first = timed(arguments.program, text, arguments.seconds)
+            took, used, peak, status, first = timed(arguments.program, text, arguments.seconds)
             ended = status == -1
-            counted = walks(arguments.program, text) if arguments.walks and not ended else ""
             rows = text.read_bytes().count(b"\n")
             shown = f"> {took:.0f}" if ended else f"{took:.3f}"
-            print(f"{case.name:<22}{rows:>8}{shown:>10}{peak / MEGABYTE:>9.1f}{counted:>8}", flush=True)
+            print(f"{case.name:<22}{rows:>8}{shown:>10}{used:>11.3f}{peak / MEGABYTE:>9.1f}", flush=True)
             if not ended and first != case.first:
                 wrong += 1
                 print(f"{case.name}: '{first}' with status {status}", file=sys.stderr)
