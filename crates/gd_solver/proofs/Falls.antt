@@ -1,7 +1,7 @@
 -- How far a potential falls along an arc.
-use Rattle.std.proofs.Common.{◌≡◌, ℕ, ◌+◌, ◌<◌, ◌^◌, ◌++◌, ◌∷◌, [], List, length, get_or, Bool, true, arith, inl, inr, subst, sym}
+use Rattle.std.proofs.Common.{◌≡◌, ℕ, ◌+◌, ◌<◌, ◌^◌, ◌++◌, ◌∷◌, [], List, length, get_or, map, Bool, true, arith, inl, inr, subst, sym, ap, ◌∙◌, refl}
 use Rattle.std.proofs.lemmas.Bool.{cases_lt}
-use Rattle.std.proofs.lemmas.List.{get_or_append_left, get_or_at}
+use Rattle.std.proofs.lemmas.List.{get_or_append_left, get_or_at, get_or-map, length-map, length-append}
 use Rattle.std.specs.Prelude.{ℤ, pos}
 use borrow.Author.Differences.{ints}
 use Rattle.gd_rules.specs.Scale.{Scale, IsBounded}
@@ -21,3 +21,14 @@ each_with P none xs x k size h last e below = elim (cases_lt e k) [
   | inl g ↦ subst (P e) (sym (get_or_append_left xs (x ∷ []) none e (subst (λ n. e < n) (sym size) g))) (h e g)
   | inr g ↦ let same : k ≡ e = omega (arith, g, below) in subst (λ m. P m (get_or (xs ++ x ∷ []) m none)) same (subst (P k) (sym (get_or_at xs x [] none k size)) last)
 ]
+
+-- an entry that was read, in the list of meanings
+pub read : {X V : Type 0} (f : X → V) (items : List X) (p : ℕ) (r : X) (none : V) → p < length (map f items) → r ≡ get_or items p r → f r ≡ get_or (map f items) p none
+read f items p r none h e = sym (get_or-map f items p r none (subst (λ n. p < n) (length-map items f) h) ∙ ap f (sym e))
+
+pub map_with : {X V : Type 0} (f : X → V) (xs : List X) (x : X) → map f (xs ++ x ∷ []) ≡ map f xs ++ f x ∷ []
+map_with f [] x = refl
+map_with f (y ∷ xs) x = ap (λ l. f y ∷ l) (map_with f xs x)
+
+pub length_with : {X : Type 0} (xs : List X) (x : X) → length (xs ++ x ∷ []) ≡ length xs + 1
+length_with xs x = length-append xs (x ∷ [])

@@ -8,7 +8,7 @@ use gd_certificate::{Cut, Prices};
 use gd_cost::Tariff;
 use gd_flow::{Feasible, Repaired, repair};
 use gd_mincost::settle;
-use gd_network::Network;
+use gd_network::{Network, potentials_price};
 use gd_question::Question;
 use gd_schedule::Schedule;
 use std::alloc::{AllocError, Global};
@@ -26,6 +26,7 @@ pub enum Answer {
 fn best_of(alloc: Global, feasible: Feasible<'_>) -> Result<Answer, AllocError>
     ensures { IfOk result (Solves feasible.entry.question) }
 {
+    potentials_price();
     feasible.known();
     let best = settle::<Tariff>(alloc, feasible)?;
     let network = best.network();
