@@ -9,7 +9,6 @@ mod best;
 mod checked;
 mod cut;
 mod levels;
-mod loads;
 mod margin;
 mod par;
 
@@ -21,9 +20,6 @@ use gd_question::Element;
 use gd_schedule::Broken;
 use std::alloc::{AllocError, Global};
 use std::marker::Model;
-
-#[cfg(test)]
-mod tests;
 
 /// What is wrong with a certificate: the first kind of fault in this order, at its least line or element, counted from 0.
 #[derive(Clone, Copy, Debug, PartialEq, Eq, Drop)]

@@ -9,12 +9,11 @@ ghost use Rattle.gd_certificate.specs.Levels.{AreReady};
 ghost use Rattle.gd_certificate.specs.Search.{FindsFirst};
 
 use crate::levels::levels;
-use crate::loads::load_table_in_parts;
 use crate::margin::{clears, is_filled, is_worthwhile, price_of};
 use crate::{CertFault, Prices};
 use gd_cost::{ByClass, Cost};
 use gd_question::{Element, Question};
-use gd_schedule::Schedule;
+use gd_schedule::{Schedule, load_table};
 use rayon::prelude::*;
 use std::alloc::Global;
 use std::thread::Threads;
@@ -110,7 +109,7 @@ fn first_overfilled<C: ByClass + Sync>(
     )
 }
 
-/// Passes exactly where the schedule is allowed and the prices clear it by this cost, else says what is first wrong. Loads and margins are reckoned by several threads.
+/// Passes exactly where the schedule is allowed and the prices clear it by this cost, else says what is first wrong. Loads and margins are checked by several threads.
 pub fn check_together<C: ByClass + Sync>(
     rt: &(impl Threads + Sync),
     alloc: Global,
@@ -128,7 +127,7 @@ pub fn check_together<C: ByClass + Sync>(
     if let Err(broken) = schedule.bounded(question) {
         return Err(CertFault::Broken(broken));
     }
-    let Ok(loads) = load_table_in_parts(rt, alloc, question, schedule) else {
+    let Ok(loads) = load_table(alloc, question, schedule) else {
         return Err(CertFault::OutOfMemory);
     };
     if let Err(broken) = schedule.carried(question, &loads) {

@@ -6,7 +6,7 @@ use Rattle.gd_rules.specs.Question.{Element, Question, element}
 use Rattle.gd_rules.specs.Question.Element.{Segment, Receipt, Delivery, Pool}
 use Rattle.gd_rules.specs.Cut.{has_place, has_end}
 use Rattle.gd_system.specs.Pipeline.{Pipeline}
-use Rattle.gd_network.specs.Arcs.{end_node}
+use Rattle.gd_question.specs.Nodes.{end_node}
 use Rattle.gd_network.specs.Flow.{ElementAgrees, IsSideOf, IsOrdered}
 use Rattle.gd_certificate.specs.Cutting.{Members, side_of}
 

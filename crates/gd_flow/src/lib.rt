@@ -9,6 +9,3 @@ mod steps;
 
 pub use feasible::Feasible;
 pub use mending::{Repaired, repair};
-
-#[cfg(test)]
-mod tests;

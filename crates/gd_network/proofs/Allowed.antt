@@ -11,10 +11,11 @@ use Rattle.gd_rules.specs.Schedule.{quantity, load, Holds, IsAllowed}
 use Rattle.gd_rules.specs.Spread.{tenth_end}
 use Rattle.gd_rules.specs.Tree.{HasLines}
 use Rattle.gd_rules.proofs.Duality.{load_up}
-use Rattle.gd_network.specs.Arcs.{Net, IsGrown, lower_at, upper_at, tenth_arc, most_of, most_part, least_part}
+use Rattle.gd_network.specs.Arcs.{Net, lower_at, upper_at, tenth_arc, most_of, most_part, least_part}
+use Rattle.gd_question.specs.Nodes.{AllBring}
 use Rattle.gd_network.proofs.Wired.{IsWired}
 use Rattle.gd_network.specs.Flow.{flow_at, IsCirculation, IsWithin, IsFlowOf, IsScheduleOf, part_of}
-use Rattle.gd_network.proofs.Sums.{int_at_most, all_pos}
+use Rattle.gd_rules.proofs.IntSums.{int_at_most, all_pos}
 use Rattle.gd_network.proofs.Tens.{most_ten, least_ten, ends_grow, last_end}
 use Rattle.gd_network.proofs.Balance.{loads_are}
 
@@ -56,7 +57,7 @@ holds_load (Delivery place capacity) z lo hi = hi
 holds_load (Pool place) z lo hi = omega (arith, ints)
 
 -- The schedule of a circulation within bounds is allowed.
-pub schedule_allowed : (q : Question) (n : Net) (flow : List ℤ) (schedule : List ℕ) → HasLines q → IsGrown q → IsWired q n → IsCirculation n flow → IsWithin n flow → IsScheduleOf q flow schedule → IsAllowed q schedule
+pub schedule_allowed : (q : Question) (n : Net) (flow : List ℤ) (schedule : List ℕ) → HasLines q → AllBring q → IsWired q n → IsCirculation n flow → IsWithin n flow → IsScheduleOf q flow schedule → IsAllowed q schedule
 schedule_allowed q n flow x lines grown w balance within of = record {
   shape = of.shape;
   floors = λ i h. pos_least (line q i).floor (quantity x i) (sum_int 10 (λ j. flow_at flow (tenth_arc q i j))) (of.sums i h) (least_of_line q n flow w within i h (lines i h).bounds);

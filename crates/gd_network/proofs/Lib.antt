@@ -1,7 +1,6 @@
 pub mod Wired
 pub mod Tens
 pub mod Sums
-pub mod Telescope
 pub mod Parts
 pub mod Edge
 pub mod Balance

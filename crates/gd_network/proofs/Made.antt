@@ -6,15 +6,16 @@ use Rattle.std.specs.List.{range_with_len}
 use borrow.Author.Differences.{ints}
 use borrow.Author.Tests.{ltb-true, ltb-false, lt-ltb}
 use Rattle.gd_rules.specs.Sum.{sum_nat}
-use Rattle.gd_rules.specs.Scale.{Scale}
+use Rattle.gd_rules.specs.Scale.{Scale, less}
 use Rattle.gd_rules.specs.Question.{Question, element, line}
 use Rattle.gd_rules.specs.Schedule.{quantity, load}
-use Rattle.gd_network.specs.Arcs.{Net, IsNetwork, start, stop, tenth_arc, element_arc, line_arc, no_arc, least_part}
+use Rattle.gd_network.specs.Arcs.{Net, IsNetwork, tenth_arc, element_arc, line_arc, no_arc, least_part}
+use Rattle.gd_question.specs.Nodes.{start, stop}
 use Rattle.gd_network.proofs.Wired.{IsWired}
 use Rattle.gd_network.specs.Holds.{by_kind, arc_is}
 use Rattle.gd_network.specs.Flow.{flow_at, IsWithin, IsFlowOf, IsScheduleOf, part_of}
-use Rattle.gd_network.specs.Potential.{less, ArePrices}
-use Rattle.gd_network.proofs.Sums.{int_same, all_pos}
+use Rattle.gd_network.specs.Potential.{ArePrices}
+use Rattle.gd_rules.proofs.IntSums.{int_same, all_pos}
 use Rattle.gd_network.proofs.Tens.{part_ten}
 use Rattle.gd_network.proofs.Allowed.{tenth_in}
 

@@ -1,5 +1,5 @@
 -- Each element brings one node, as the pipeline grew.
-use Rattle.std.proofs.Common.{◌≡◌, ℕ, suc, ◌+◌, ◌*◌, ◌<◌, ◌≤◌, ◌^◌, List, length, refl, sym, ◌∙◌, subst, arith, add-one, inl, inr, Bool, true, false}
+use Rattle.std.proofs.Common.{◌≡◌, ℕ, suc, ◌+◌, ◌*◌, ◌<◌, ◌≤◌, ◌^◌, List, length, refl, sym, ◌∙◌, subst, arith, inl, inr, Bool, true, false}
 use Rattle.std.specs.Prelude.{ℤ, pos, ◌≤ℤ◌, ◌==◌}
 use borrow.Author.Differences.{ints}
 use Rattle.std.proofs.lemmas.Bool.{cases_lt}
@@ -14,7 +14,8 @@ use Rattle.gd_question.specs.Placed.{IsPlaced}
 use Rattle.gd_question.specs.Known.{IsKnown}
 use Rattle.gd_schedule.specs.Sizes.{IsSized}
 use Rattle.gd_schedule.proofs.Sizes.{load_sized}
-use Rattle.gd_network.specs.Arcs.{Net, Brings, IsGrown, IsNetwork, start_of, stop_of, from_at, to_at, lower_at, upper_at, most_part, least_part}
+use Rattle.gd_network.specs.Arcs.{Net, IsNetwork, from_at, to_at, lower_at, upper_at, most_part, least_part}
+use Rattle.gd_question.specs.Nodes.{Brings, AllBring, start_of, stop_of}
 use Rattle.gd_network.specs.Flow.{IsOrdered, flow_at, part_of, IsFlowOf}
 use Rattle.gd_network.specs.Holds.{FirstArcs, FirstFlows}
 use Rattle.gd_network.specs.Begun.{AreSound, IsFirst}
@@ -22,25 +23,6 @@ use Rattle.gd_network.proofs.Built.{arcs_all, flows_all}
 use Rattle.gd_network.proofs.Wired.{IsWired, wired}
 use Rattle.gd_network.proofs.Allowed.{by_arc}
 use Rattle.gd_network.proofs.Tens.{ends_grow}
-
-joined : (k : ℕ) (e : Element) → tree.Joins k e → Brings k e
-joined k (Segment from to capacity) (inl h) = inr (h.0 ∙ sym (add-one k), h.1)
-joined k (Segment from to capacity) (inr h) = inl (h.0 ∙ sym (add-one k), h.1)
-joined k (Receipt place capacity) h = absurd h
-joined k (Delivery place capacity) h = absurd h
-joined k (Pool place) h = absurd h
-
-hung : (k s : ℕ) (e : Element) → tree.IsNoSegment e → s ≤ k → place_of e ≤ s → Brings k e
-hung k s (Segment from to capacity) h g p = absurd h
-hung k s (Receipt place capacity) h g p = omega arith
-hung k s (Delivery place capacity) h g p = omega arith
-hung k s (Pool place) h g p = omega arith
-
-pub grown : (s : Pipeline) (q : Question) → IsPlaced s q → IsGrown q
-grown s q p e h = elim (cases_lt e (length s.tree)) [
-  | inl g ↦ joined e (element q e) (p.grown.joins e g)
-  | inr g ↦ hung e (length s.tree) (element q e) (p.grown.others e g) g (p.hung e h)
-]
 
 joined_order : (k s : ℕ) (e : Element) → k < s → tree.Joins k e → IsOrdered s k e
 joined_order k s (Segment from to capacity) g (inl h) = let a : from ≡ suc k = h.0 in let b : to ≤ k = h.1 in (omega arith, omega arith)
@@ -76,7 +58,7 @@ pos_up : (a b : ℕ) → a ≤ b → pos a ≤ℤ pos b
 pos_up a b h = omega (arith, ints)
 
 -- Each arc joins nodes of the question, and its bounds are in order.
-pub sound : (q : Question) (n : Net) → HasLines q → IsGrown q → FirstArcs q (length q.elements + 10 * length q.lines) n → AreSound (length q.elements + 1) n
+pub sound : (q : Question) (n : Net) → HasLines q → AllBring q → FirstArcs q (length q.elements + 10 * length q.lines) n → AreSound (length q.elements + 1) n
 sound q n lines g f =
     let w : IsWired q n = wired q n (arcs_all q n f) in
     record {

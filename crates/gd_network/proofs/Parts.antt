@@ -6,10 +6,13 @@ use Rattle.gd_rules.specs.Sum.{sum_int}
 use Rattle.gd_rules.specs.Words.{whole}
 use Rattle.gd_rules.proofs.Words.{whole_lawful}
 use Rattle.gd_rules.specs.Question.{Line, Question, element, line}
-use Rattle.gd_network.specs.Arcs.{Net, from_at, to_at, lower_at, upper_at, start, stop, most_of, most_part, least_part, tenth_arc, end_node}
+use Rattle.gd_network.specs.Arcs.{Net, from_at, to_at, lower_at, upper_at, most_of, most_part, least_part, tenth_arc}
+use Rattle.gd_question.specs.Nodes.{start, stop, end_node, carried}
+use Rattle.gd_schedule.proofs.Balance.{by_parts}
 use Rattle.gd_network.proofs.Wired.{IsWired}
-use Rattle.gd_network.specs.Flow.{flow_at, carried, net, bound_of, arc_excess}
-use Rattle.gd_network.proofs.Sums.{total_parts, int_same, all_pos}
+use Rattle.gd_network.specs.Flow.{flow_at, net, bound_of, arc_excess}
+use Rattle.gd_network.proofs.Sums.{total_parts}
+use Rattle.gd_rules.proofs.IntSums.{int_same, all_pos}
 use Rattle.gd_network.proofs.Tens.{most_ten, least_ten}
 
 carried_more : (b c : Bool) (x y : ℤ) → carried b c x +ℤ carried b c y ≡ carried b c (x +ℤ y)
@@ -44,19 +47,6 @@ bound_none false false = refl
 pub bound_sum : (b c : Bool) (n : ℕ) (f g : ℕ → ℤ) → sum_int n (λ j. bound_of b c (f j) (g j)) ≡ bound_of b c (sum_int n f) (sum_int n g)
 bound_sum b c zero f g = bound_none b c
 bound_sum b c (suc n) f g = ap (λ w. w +ℤ bound_of b c (f n) (g n)) (bound_sum b c n f g) ∙ bound_more b c (sum_int n f) (sum_int n g) (f n) (g n)
-
--- what flows of this much through the elements, and this much back over the lines, carry into a set
-abbrev pub by_parts : Question → (ℕ → Bool) → (ℕ → ℤ) → (ℕ → ℤ) → ℤ
-by_parts q inside f g =
-    sum_int (length q.elements) (λ e. carried (inside (start q e)) (inside (stop q e)) (f e))
-    +ℤ sum_int (length q.lines) (λ i. carried (inside (end_node (line q i).dest)) (inside (end_node (line q i).origin)) (g i))
-
-pub by_parts_same : (q : Question) (inside : ℕ → Bool) (f f2 g g2 : ℕ → ℤ) → ((e : ℕ) → e < length q.elements → f e ≡ f2 e) → ((i : ℕ) → i < length q.lines → g i ≡ g2 i) → by_parts q inside f g ≡ by_parts q inside f2 g2
-by_parts_same q inside f f2 g g2 h k =
-    ap (λ w. w +ℤ sum_int (length q.lines) (λ i. carried (inside (end_node (line q i).dest)) (inside (end_node (line q i).origin)) (g i)))
-    (int_same (length q.elements) (λ e. carried (inside (start q e)) (inside (stop q e)) (f e)) (λ e. carried (inside (start q e)) (inside (stop q e)) (f2 e)) (λ e m. ap (carried (inside (start q e)) (inside (stop q e))) (h e m)))
-    ∙ ap (λ w. sum_int (length q.elements) (λ e. carried (inside (start q e)) (inside (stop q e)) (f2 e)) +ℤ w)
-    (int_same (length q.lines) (λ i. carried (inside (end_node (line q i).dest)) (inside (end_node (line q i).origin)) (g i)) (λ i. carried (inside (end_node (line q i).dest)) (inside (end_node (line q i).origin)) (g2 i)) (λ i m. ap (carried (inside (end_node (line q i).dest)) (inside (end_node (line q i).origin))) (k i m)))
 
 module _ (q : Question) (n : Net) (w : IsWired q n) (inside : ℕ → Bool) where
   pub net_parts : (flow : List ℤ) → net inside n flow ≡ by_parts q inside (λ e. flow_at flow e) (λ i. sum_int 10 (λ j. flow_at flow (tenth_arc q i j)))

@@ -5,7 +5,7 @@ use Rattle.std.proofs.lemmas.Bool.{cases_lt, cases_eq}
 use Rattle.std.proofs.lemmas.Int.{by_lt_z}
 use borrow.Author.Differences.{ints}
 use Rattle.gd_rules.specs.Sum.{sum_int}
-use Rattle.gd_rules.specs.Scale.{Scale, IsLawful, multiple, AtMost, IsAbove}
+use Rattle.gd_rules.specs.Scale.{Scale, IsLawful, multiple, AtMost, IsAbove, less}
 use Rattle.gd_rules.specs.Units.{NeverRises}
 use Rattle.gd_rules.specs.Question.{Element, Line, Question, element, line, crossing}
 use Rattle.gd_rules.specs.Question.Element.{Segment, Receipt, Delivery, Pool}
@@ -16,13 +16,14 @@ use Rattle.gd_rules.specs.Tree.{HasLines}
 use Rattle.gd_rules.proofs.Group.{injective, minus_none, at_most_itself, at_most_left, at_most_plus, at_most_then, at_most_back}
 use Rattle.gd_rules.proofs.Sums.{total_same}
 use Rattle.gd_rules.proofs.LiesIn.{lies_in}
-use Rattle.gd_network.specs.Arcs.{Net, IsGrown, from_at, start, stop, end_node, tenth_arc, most_of, most_part, least_part}
+use Rattle.gd_network.specs.Arcs.{Net, from_at, tenth_arc, most_of, most_part, least_part}
+use Rattle.gd_question.specs.Nodes.{AllBring, start, stop, end_node}
 use Rattle.gd_network.proofs.Wired.{IsWired}
 use Rattle.gd_network.specs.Flow.{flow_at, IsCirculation, IsWithin, IsScheduleOf}
-use Rattle.gd_network.specs.Potential.{less, IsGains, IsStill, ArePrices}
-use Rattle.gd_network.proofs.Sums.{int_at_most, all_pos}
+use Rattle.gd_network.specs.Potential.{IsGains, IsStill, ArePrices}
+use Rattle.gd_rules.proofs.IntSums.{int_at_most, all_pos}
 use Rattle.gd_network.proofs.Tens.{most_sum, ends_grow, first_end, last_end}
-use Rattle.gd_network.proofs.Telescope.{less_back, less_chain, less_turned, line_rise}
+use Rattle.gd_schedule.proofs.Telescope.{less_back, less_chain, less_turned, line_rise}
 use Rattle.gd_network.proofs.Balance.{loads_are}
 use Rattle.gd_network.proofs.Allowed.{tenth_in, element_in}
 
@@ -254,7 +255,7 @@ module _ {V : Type 0} (s : Scale V) (l : IsLawful s) where
         (still.back e inn (subst (λ z. z <ℤ flow_at flow e) (sym (w.least e h)) room)))))))
 
     -- The prices show the schedule best.
-    pub priced : IsGrown q → IsCirculation n flow → ((i : ℕ) → i < length q.lines → quantity x i ≤ (line q i).ceiling) → IsPriced s unit q x prices
+    pub priced : AllBring q → IsCirculation n flow → ((i : ℕ) → i < length q.lines → quantity x i ≤ (line q i).ceiling) → IsPriced s unit q x prices
     priced grown balance ceilings = record {
       shape = are.shape;
       clears = λ e h. clears_all e h (loads_are q n flow x lines grown w balance of e h);

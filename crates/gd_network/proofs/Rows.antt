@@ -4,7 +4,7 @@ use Rattle.std.specs.Prelude.{pos, negsuc}
 use Rattle.gd_rules.specs.Question.{Question}
 use Rattle.gd_rules.specs.Question.Element.{Segment, Receipt, Delivery}
 use Rattle.gd_rules.specs.Cut.{excess}
-use Rattle.gd_network.specs.Arcs.{IsGrown}
+use Rattle.gd_question.specs.Nodes.{AllBring}
 use Rattle.gd_network.specs.Flow.{net, arc_excess}
 use Rattle.gd_network.specs.Begun.{brought}
 use Rattle.gd_network.specs.Links.{links_of}
@@ -16,7 +16,7 @@ one = record {
   lines = record { origin = 1; dest = 2; route = 0 ∷ []; class = 1; floor = 0; ceiling = 80 } ∷ record { origin = 1; dest = 2; route = 0 ∷ []; class = 4; floor = 33; ceiling = 50 } ∷ [];
 }
 
-one-grown : IsGrown one
+one-grown : AllBring one
 unfolding one
 one-grown zero h = inl (refl, omega arith)
 one-grown (suc zero) h = omega arith

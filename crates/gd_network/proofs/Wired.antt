@@ -3,7 +3,8 @@ use Rattle.std.proofs.Common.{◌≡◌, ℕ, ◌+◌, ◌*◌, ◌<◌, length,
 use Rattle.std.specs.Prelude.{pos}
 use Rattle.gd_rules.specs.Question.{Question, element, line}
 use Rattle.gd_network.specs.declared.arcs.Arc.{Arc}
-use Rattle.gd_network.specs.Arcs.{Net, IsNetwork, from_at, to_at, lower_at, upper_at, start, stop, end_node, most_of, most_part, least_part, tenth_arc}
+use Rattle.gd_network.specs.Arcs.{Net, IsNetwork, from_at, to_at, lower_at, upper_at, most_of, most_part, least_part, tenth_arc}
+use Rattle.gd_question.specs.Nodes.{start, stop, end_node}
 
 pub record IsWired (q : Question) (n : Net) : Type 0 where
   pub size : length n ≡ length q.elements + 10 * length q.lines

@@ -1,33 +1,10 @@
 -- A question as a network: an arc for each element, and ten for each line, which lead back from its destination to its origin.
-use Rattle.std.specs.Prelude.{◌≡◌, ℕ, ◌+◌, ◌-◌, ◌*◌, ◌<◌, ◌≤◌, ℤ, pos, List, length, get_or, min, max, ◌⊎◌}
+use Rattle.std.specs.Prelude.{◌≡◌, ℕ, ◌+◌, ◌-◌, ◌*◌, ◌<◌, ℤ, pos, List, length, get_or, min, max}
 use Rattle.gd_rules.specs.Question.{Element, Line, Question, element, line}
 use Rattle.gd_rules.specs.Question.Element.{Segment, Receipt, Delivery, Pool}
 use Rattle.gd_rules.specs.Spread.{tenth_end}
+use Rattle.gd_question.specs.Nodes.{end_node, start_of, stop_of}
 use Rattle.gd_network.specs.declared.arcs.Arc.{Arc}
-
--- A place's node is its own number. A point or pool has the one after its element's number.
-abbrev pub end_node : ℕ → ℕ
-end_node e = e + 1
-
--- The node at which an element's arc begins.
-abbrev pub start_of : ℕ → Element → ℕ
-start_of e (Segment from to capacity) = from
-start_of e (Receipt place capacity) = end_node e
-start_of e (Delivery place capacity) = place
-start_of e (Pool place) = place
-
--- The node at which it ends.
-abbrev pub stop_of : ℕ → Element → ℕ
-stop_of e (Segment from to capacity) = to
-stop_of e (Receipt place capacity) = place
-stop_of e (Delivery place capacity) = end_node e
-stop_of e (Pool place) = end_node e
-
-abbrev pub start : Question → ℕ → ℕ
-start q e = start_of e (element q e)
-
-abbrev pub stop : Question → ℕ → ℕ
-stop q e = stop_of e (element q e)
 
 -- What an element's arc carries at most: nothing where it is a pool, which gives back what it takes.
 abbrev pub most_of : Element → ℕ
@@ -35,16 +12,6 @@ most_of (Segment from to capacity) = capacity
 most_of (Receipt place capacity) = capacity
 most_of (Delivery place capacity) = capacity
 most_of (Pool place) = 0
-
--- Each element brings one node, the one after its own number, and joins it with an earlier one.
-abbrev pub Brings : ℕ → Element → Type 0
-Brings e (Segment from to capacity) = ((to ≡ e + 1) × (from ≤ e)) ⊎ ((from ≡ e + 1) × (to ≤ e))
-Brings e (Receipt place capacity) = place ≤ e
-Brings e (Delivery place capacity) = place ≤ e
-Brings e (Pool place) = place ≤ e
-
-abbrev pub IsGrown : Question → Type 0
-IsGrown q = (e : ℕ) → e < length q.elements → Brings e (element q e)
 
 -- What the arc of the tenth after j tenths carries at most, and at least.
 abbrev pub most_part : ℕ → ℕ → ℕ

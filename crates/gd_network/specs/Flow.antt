@@ -1,24 +1,16 @@
 -- What flows over a network's arcs.
-use Rattle.std.specs.Prelude.{◌≡◌, ℕ, ◌+◌, ◌-◌, ◌<◌, ℤ, pos, ◌-ℤ◌, ◌≤ℤ◌, neg_ℤ, Bool, true, false, List, length, get_or, min, max, ◌==◌, ◌≤◌, take, drop, replicate, ◌++◌, if◌then◌else◌, ◌<ℤ◌, ◌⊎◌}
+use Rattle.std.specs.Prelude.{◌≡◌, ℕ, ◌+◌, ◌-◌, ◌<◌, ℤ, pos, ◌≤ℤ◌, neg_ℤ, Bool, true, false, List, length, get_or, min, max, ◌==◌, ◌≤◌, take, drop, replicate, ◌++◌, if◌then◌else◌, ◌<ℤ◌, ◌⊎◌}
 use Rattle.gd_rules.specs.Sum.{sum_int}
 use Rattle.gd_rules.specs.Question.{Element, Question, element, line}
 use Rattle.gd_rules.specs.Question.Element.{Segment, Receipt, Delivery, Pool}
 use Rattle.gd_rules.specs.Schedule.{quantity, load}
 use Rattle.gd_rules.specs.Spread.{tenth_end}
 use Rattle.gd_rules.specs.Cut.{Side, has_place, has_end}
-use Rattle.gd_network.specs.Arcs.{Net, from_at, to_at, lower_at, upper_at, tenth_arc, end_node}
+use Rattle.gd_network.specs.Arcs.{Net, from_at, to_at, lower_at, upper_at, tenth_arc}
+use Rattle.gd_question.specs.Nodes.{end_node, carried}
 
 abbrev pub flow_at : List ℤ → ℕ → ℤ
 flow_at flow a = get_or flow a (pos 0)
-
--- an amount where the node is inside
-abbrev pub inside_part : Bool → ℤ → ℤ
-inside_part true f = f
-inside_part false f = pos 0
-
--- what f dekatherms along an arc carry into the set, which has its start or not, and its end or not
-abbrev pub carried : Bool → Bool → ℤ → ℤ
-carried s e f = inside_part e f -ℤ inside_part s f
 
 -- what a flow carries into the set of nodes that pass
 abbrev pub net : (ℕ → Bool) → Net → List ℤ → ℤ

@@ -1,13 +1,11 @@
 -- Potentials of nodes, under which no arc with room gains, and the prices that they give.
 use Rattle.std.specs.Prelude.{◌≡◌, ℕ, ◌+◌, ◌<◌, ◌<ℤ◌, ℤ, List, length}
-use Rattle.gd_rules.specs.Scale.{Scale, AtMost}
+use Rattle.gd_rules.specs.Scale.{Scale, AtMost, less}
 use Rattle.gd_rules.specs.Question.{Question, line}
 use Rattle.gd_rules.specs.Priced.{price}
-use Rattle.gd_network.specs.Arcs.{Net, from_at, to_at, lower_at, upper_at, start, stop, tenth_arc}
+use Rattle.gd_network.specs.Arcs.{Net, from_at, to_at, lower_at, upper_at, tenth_arc}
+use Rattle.gd_question.specs.Nodes.{start, stop}
 use Rattle.gd_network.specs.Flow.{flow_at}
-
-abbrev pub less : {V : Type 0} → Scale V → V → V → V
-less s x y = s.plus x (s.minus y)
 
 -- An element's arc gains nothing, and that of a line's tenth what a dekatherm in it is worth.
 pub record IsGains {V : Type 0} (s : Scale V) (unit : ℕ → ℕ → V) (q : Question) (gain : ℕ → V) : Type 0 where

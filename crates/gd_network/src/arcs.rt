@@ -4,7 +4,8 @@ ghost use Rattle.std.specs.Prelude.{◌≡◌, ◌+◌, ◌*◌, ◌<◌, ◌≤
 ghost use Rattle.gd_rules.specs.Question.{line as asked_line};
 ghost use Rattle.gd_rules.specs.Spread.{tenth_end};
 ghost use Rattle.gd_system.specs.Pipeline.{element_of};
-ghost use Rattle.gd_network.specs.Arcs.{start_of, stop_of, most_of, most_part, least_part, tenth_arc, element_arc, line_arc};
+ghost use Rattle.gd_network.specs.Arcs.{most_of, most_part, least_part, tenth_arc, element_arc, line_arc};
+ghost use Rattle.gd_question.specs.Nodes.{start_of, stop_of};
 ghost use Rattle.gd_network.specs.Holds.{FirstArcs};
 
 use gd_question::{Element, Part, Question};

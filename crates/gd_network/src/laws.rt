@@ -1,8 +1,8 @@
 //! What flows over a network say of schedules, of cuts and of prices. Each function is a law: its contract is the statement.
 
-ghost use Rattle.std.specs.Prelude.{◌≡◌, ◌+◌, ◌<◌, ◌≤◌, ℕ, ℤ, Bool, false, List, length, get_or};
+ghost use Rattle.std.specs.Prelude.{◌≡◌, ◌<◌, ◌≤◌, ℕ, ℤ, Bool, false, List, length, get_or};
 ghost use Rattle.gd_rules.specs.Sum.{sum_nat};
-ghost use Rattle.gd_rules.specs.Scale.{multiple, total_below};
+ghost use Rattle.gd_rules.specs.Scale.{multiple, total_below, less};
 ghost use Rattle.gd_rules.specs.Question.{Question, element, line, crossing};
 ghost use Rattle.gd_rules.specs.Schedule.{IsAllowed};
 ghost use Rattle.gd_rules.specs.Spread.{IsBest};
@@ -12,9 +12,10 @@ ghost use Rattle.gd_rules.specs.Words.{whole, tariff, tariff_unit};
 ghost use Rattle.gd_rules.specs.Cut.{Side, IsCut};
 ghost use Rattle.gd_system.specs.Pipeline.{Pipeline};
 ghost use Rattle.gd_question.specs.Placed.{IsPlaced};
-ghost use Rattle.gd_network.specs.Arcs.{Net, IsNetwork, IsGrown, start, stop, end_node, most_part, least_part};
+ghost use Rattle.gd_network.specs.Arcs.{Net, IsNetwork, most_part, least_part};
+ghost use Rattle.gd_question.specs.Nodes.{AllBring, start, stop, end_node};
 ghost use Rattle.gd_network.specs.Flow.{part_of, IsCirculation, IsWithin, IsFlowOf, IsScheduleOf, IsSideOf, IsEdge, IsShort, IsOrdered, side_of};
-ghost use Rattle.gd_network.specs.Potential.{less, IsGains, IsStill, ArePrices};
+ghost use Rattle.gd_network.specs.Potential.{IsGains, IsStill, ArePrices};
 
 /// A line's ten arcs together have its ceiling, its floor and its quantity.
 pub fn ten_sums()
@@ -29,10 +30,9 @@ pub fn lines_rise()
     ensures worths { (q : Question) (i : ℕ) (label : ℕ → (ℕ → ℤ) × (ℕ → ℤ)) → IsLine q (line q i) → total_below tariff (length q.elements) (λ e. multiple tariff (crossing q i e) (less tariff (label (stop q e)) (label (start q e)))) ≡ less tariff (label (end_node (line q i).dest)) (label (end_node (line q i).origin)) }
 {}
 
-/// Where a question's elements lie, each brings the node after its number, which its arc joins with an earlier one; and segments join the first nodes.
+/// Where a question's elements lie: segments join the first nodes, and points and pools come after them.
 pub fn elements_bring()
-    ensures grown { (pipeline : Pipeline) (q : Question) → IsPlaced pipeline q → IsGrown q }
-    ensures ordered { (pipeline : Pipeline) (q : Question) → IsPlaced pipeline q → (e : ℕ) → e < length q.elements → IsOrdered (length pipeline.tree) e (element q e) }
+    ensures { (pipeline : Pipeline) (q : Question) → IsPlaced pipeline q → (e : ℕ) → e < length q.elements → IsOrdered (length pipeline.tree) e (element q e) }
 {}
 
 /// Each question has its network, each schedule its flow, which has it back, and each flow within bounds its schedule.
@@ -51,7 +51,7 @@ pub fn schedules_flow()
 
 /// What the lines' arcs of a flow that balances within its bounds carry is an allowed schedule.
 pub fn flows_schedule()
-    ensures { (q : Question) (n : Net) (flow : List ℤ) (schedule : List ℕ) → HasLines q → IsGrown q → IsNetwork q n → IsCirculation n flow → IsWithin n flow → IsScheduleOf q flow schedule → IsAllowed q schedule }
+    ensures { (q : Question) (n : Net) (flow : List ℤ) (schedule : List ℕ) → HasLines q → AllBring q → IsNetwork q n → IsCirculation n flow → IsWithin n flow → IsScheduleOf q flow schedule → IsAllowed q schedule }
 {}
 
 /// A set of nodes that no step leaves, and that an arc leads into or out of which is short of a bound, is a cut.
@@ -62,6 +62,6 @@ pub fn reached_cut()
 
 /// Where no step gains, the potentials' falls are prices that show the flow's schedule best.
 pub fn potentials_price()
-    ensures priced { (q : Question) (n : Net) (flow : List ℤ) (schedule : List ℕ) (gain label : ℕ → (ℕ → ℤ) × (ℕ → ℤ)) (prices : List ((ℕ → ℤ) × (ℕ → ℤ))) → HasLines q → IsGrown q → IsNetwork q n → IsCirculation n flow → IsWithin n flow → IsScheduleOf q flow schedule → IsGains tariff tariff_unit q gain → IsStill tariff n flow gain label → ArePrices tariff q label prices → IsPriced tariff tariff_unit q schedule prices }
-    ensures best { (q : Question) (n : Net) (flow : List ℤ) (schedule : List ℕ) (gain label : ℕ → (ℕ → ℤ) × (ℕ → ℤ)) → HasLines q → IsGrown q → IsNetwork q n → IsCirculation n flow → IsWithin n flow → IsScheduleOf q flow schedule → IsGains tariff tariff_unit q gain → IsStill tariff n flow gain label → IsBest q schedule }
+    ensures priced { (q : Question) (n : Net) (flow : List ℤ) (schedule : List ℕ) (gain label : ℕ → (ℕ → ℤ) × (ℕ → ℤ)) (prices : List ((ℕ → ℤ) × (ℕ → ℤ))) → HasLines q → AllBring q → IsNetwork q n → IsCirculation n flow → IsWithin n flow → IsScheduleOf q flow schedule → IsGains tariff tariff_unit q gain → IsStill tariff n flow gain label → ArePrices tariff q label prices → IsPriced tariff tariff_unit q schedule prices }
+    ensures best { (q : Question) (n : Net) (flow : List ℤ) (schedule : List ℕ) (gain label : ℕ → (ℕ → ℤ) × (ℕ → ℤ)) → HasLines q → AllBring q → IsNetwork q n → IsCirculation n flow → IsWithin n flow → IsScheduleOf q flow schedule → IsGains tariff tariff_unit q gain → IsStill tariff n flow gain label → IsBest q schedule }
 {}

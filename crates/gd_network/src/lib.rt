@@ -14,6 +14,3 @@ pub use laws::{
     schedules_flow, ten_sums,
 };
 pub use network::{Network, Tenth};
-
-#[cfg(test)]
-mod tests;

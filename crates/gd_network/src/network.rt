@@ -4,7 +4,8 @@ ghost use Rattle.std.specs.Prelude.{◌≡◌, ℕ, ◌+◌, ◌<◌, ◌≤◌,
 ghost use Rattle.gd_rules.specs.Schedule.{IsAllowed, load};
 ghost use Rattle.gd_question.specs.Known.{IsKnown};
 ghost use Rattle.gd_question.specs.Placed.{IsPlaced};
-ghost use Rattle.gd_network.specs.Arcs.{IsNetwork, IsGrown, arc_at, start, stop, tenth_arc};
+ghost use Rattle.gd_network.specs.Arcs.{IsNetwork, arc_at, tenth_arc};
+ghost use Rattle.gd_question.specs.Nodes.{AllBring, start, stop};
 ghost use Rattle.gd_network.specs.Flow.{flow_at, IsCirculation, IsWithin, IsFlowOf, IsScheduleOf};
 ghost use Rattle.gd_network.specs.Links.{links_of};
 ghost use Rattle.gd_network.specs.Begun.{brought, AreSound, IsFirst};
@@ -97,7 +98,7 @@ impl<'q> Network<'q> {
         ensures network { IsNetwork self.now.question.asked self.now.arcs }
         ensures question { IsKnown self.now.question.asked }
         ensures placed { IsPlaced self.now.question.pipeline self.now.question.asked }
-        ensures grown { IsGrown self.now.question.asked }
+        ensures grown { AllBring self.now.question.asked }
         ensures sound { AreSound (length self.now.question.asked.elements + 1) self.now.arcs }
         ensures first { IsFirst self.now.arcs self.now.first }
         ensures balances { IsCirculation self.now.arcs self.now.first }

@@ -4,3 +4,4 @@ pub mod InForce
 pub mod Rows
 pub mod Inside
 pub mod Placed
+pub mod Nodes

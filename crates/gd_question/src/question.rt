@@ -1,12 +1,11 @@
-ghost use Rattle.std.specs.Prelude.{◌≡◌, ◌≢◌, ◌↔◌, IsTrue, ℕ, ◌+◌, ◌*◌, ◌^◌, ◌<◌, ◌≤◌, ◌==◌, Some, None, Ok, Err, pos, ◌+ℤ◌, ◌<ℤ◌, length, get_or, slice_get, List, Option, Result, IfOk, IfSome, OnOk, OnErr, MatchResult, option_map, if◌then◌else◌};
+ghost use Rattle.std.specs.Prelude.{◌≡◌, ◌↔◌, IsTrue, ◌+◌, ◌<◌, ◌==◌, Some, None, Ok, Err, length, slice_get, Option, Result, IfOk, OnOk, OnErr, MatchResult, if◌then◌else◌};
 ghost use Rattle.std.specs.List.{count_by};
 ghost use Rattle.gd_rules.specs.Question.{line, element as asked_element};
 ghost use Rattle.gd_question.specs.Known.{IsKnown, limit_of};
 ghost use Rattle.gd_question.specs.Placed.{IsPlaced};
-ghost use Rattle.gd_question.specs.Posed.{with_limit, after_capacity, checked_line, line_between, with_line, capacity_fault, posed};
+ghost use Rattle.gd_question.specs.Posed.{with_limit, after_capacity, checked_line, with_line, capacity_fault, posed};
 ghost use Rattle.gd_question.specs.Rows.{IsRow, ends_of_row, AreOwn};
 ghost use Rattle.gd_system.specs.Pipeline.{element_of, names_of};
-ghost use Rattle.gd_system.specs.Route.{element_at};
 
 use crate::{CapacityFault, LineFault};
 use gd_system::{Element, Ends, Part, System};
@@ -332,25 +331,6 @@ impl Question {
         ensures { result ≡ limit_of (asked_element self.now.asked element.0) }
     {
         limit_of_part(self.part(element))
-    }
-
-    /// Adds a quantity at each segment of a line's route.
-    pub fn add_along(&self, at: usize, quantity: Dth, sums: &mut [i64])
-        requires known { at < length self.now.asked.lines }
-        requires long { length self.now.asked.elements ≤ length sums.old }
-        requires room { (e : ℕ) → (get_or sums.old e (pos 0) +ℤ pos quantity) <ℤ pos (2 ^ 63) }
-        ensures sized { length sums.new ≡ length sums.old }
-        ensures added { (e : ℕ) → get_or sums.new e (pos 0) ≡ get_or sums.old e (pos 0) +ℤ pos (count_by (λ k. k == e) (line self.now.asked at).route * quantity) }
-    {
-        self.system.known();
-        let ends = self.rows[at].ends;
-        let tree = self.system.tree();
-        tree.add_along(
-            ends.origin_place.0 as u32,
-            ends.dest_place.0 as u32,
-            quantity,
-            sums,
-        );
     }
 
     /// Whether a segment stands in a line's route. A route passes it at most once.

@@ -1,6 +1,7 @@
-pub mod Parts
+pub mod Telescope
+pub mod Balance
+pub mod Surplus
 pub mod Sizes
-pub mod Added
 pub mod Tenths
 pub mod Faults
 pub mod Compared

@@ -75,39 +75,9 @@ sum_sized (suc n) b f h =
     rw e (sized_more n b (sum_int n f) (f n) (sum_sized n b f (λ i k. h i (omega arith))) (h n (omega arith)))
 
 -- What lines below the n-th bring to an element fits.
--- What some of the lines bring, from one number on.
-pub part_sized : (q : Question) (schedule : List ℕ) (e from n : ℕ) → n ≤ 20000 → ((k : ℕ) → k < n → length (line q (from + k)).route ≤ 4095) → ((k : ℕ) → k < n → quantity schedule (from + k) ≤ 1000000000)
-    → IsSized (2 ^ 61) (sum_int n (λ k. crossing q (from + k) e *ℤ pos (quantity schedule (from + k))))
-part_sized q schedule e from n few short small =
-    let p = sum_sized n (4095 * 1000000000) (λ k. crossing q (from + k) e *ℤ pos (quantity schedule (from + k)))
-    (λ k h. times_sized 4095 1000000000 (quantity schedule (from + k)) (crossing q (from + k) e) (crossing_sized (line q (from + k)) e (element q e) (short k h)) (small k h)) in
-    sized_wider (n * (4095 * 1000000000)) (2 ^ 61) (sum_int n (λ k. crossing q (from + k) e *ℤ pos (quantity schedule (from + k)))) (omega arith) p
-
 pub load_sized : (q : Question) (schedule : List ℕ) (e n : ℕ) → n ≤ 20000 → ((i : ℕ) → i < n → length (line q i).route ≤ 4095) → ((i : ℕ) → i < n → quantity schedule i ≤ 1000000000)
     → IsSized (2 ^ 61) (sum_int n (λ i. crossing q i e *ℤ pos (quantity schedule i)))
 load_sized q schedule e n few short small =
     let p = sum_sized n (4095 * 1000000000) (λ i. crossing q i e *ℤ pos (quantity schedule i))
     (λ i h. times_sized 4095 1000000000 (quantity schedule i) (crossing q i e) (crossing_sized (line q i) e (element q e) (short i h)) (small i h)) in
     sized_wider (n * (4095 * 1000000000)) (2 ^ 61) (sum_int n (λ i. crossing q i e *ℤ pos (quantity schedule i))) (omega arith) p
-
--- What a route brings leaves room for more.
-pub route_sized : (start : ℤ) (ks : List ℕ) (e m : ℕ) (t : ℤ) → length ks ≤ 4095 → m ≤ 1000000000 → IsSized (2 ^ 61) start → t ≡ start +ℤ pos (count_by (λ j. j == e) ks * m) → IsSized (2 ^ 61 + 5000000000000) t
-route_sized start ks e m t h k s w =
-    let c : count_by (λ j. j == e) ks ≤ length ks = count_by-le-length (λ j. j == e) ks in
-    let f : count_by (λ j. j == e) ks * m ≤ 4095 * m = mul-le-mul_right m (let g : count_by (λ j. j == e) ks ≤ 4095 = omega arith in g) in
-    let a : neg_ℤ (pos (2 ^ 61)) ≤ℤ start = s.low in
-    let b : start ≤ℤ pos (2 ^ 61) = s.high in
-    record { low = omega (arith, ints); high = omega (arith, ints) }
-
--- There is still room after a line's origin.
-pub origin_sized : (a r v : ℤ) (b : Bool) → IsSized (2 ^ 61 + 5000000000000) a → IsSized 1000000000 v → r ≡ a +ℤ (if b then v else pos 0) → IsSized (2 ^ 62) r
-origin_sized a r v true h k e =
-    let p : neg_ℤ (pos (2 ^ 61 + 5000000000000)) ≤ℤ a = h.low in
-    let q : a ≤ℤ pos (2 ^ 61 + 5000000000000) = h.high in
-    let s : neg_ℤ (pos 1000000000) ≤ℤ v = k.low in
-    let t : v ≤ℤ pos 1000000000 = k.high in
-    record { low = omega (arith, ints); high = omega (arith, ints) }
-origin_sized a r v false h k e =
-    let p : neg_ℤ (pos (2 ^ 61 + 5000000000000)) ≤ℤ a = h.low in
-    let q : a ≤ℤ pos (2 ^ 61 + 5000000000000) = h.high in
-    record { low = omega (arith, ints); high = omega (arith, ints) }

@@ -17,7 +17,7 @@ pub use allowed::faults_are_broken;
 pub use classes::Totals;
 use gd_question::Element;
 use gd_units::Dth;
-pub use loads::{load_part, load_table};
+pub use loads::load_table;
 pub use order::compare;
 use std::alloc::{AllocError, Global};
 use std::marker::Model;

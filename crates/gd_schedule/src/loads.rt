@@ -1,15 +1,15 @@
 //! The loads of elements: what the lines bring to each, in dekatherms a gas day.
 
-ghost use Rattle.std.specs.Prelude.{◌≡◌, ℕ, pos, ◌+◌, ◌+ℤ◌, ◌*ℤ◌, ◌≤◌, ◌<◌, ◌^◌, length, get_or, IfOk, ◌==◌, if◌then◌else◌, MatchOption, ◌⊎◌, ◌≢◌};
+ghost use Rattle.std.specs.Prelude.{◌≡◌, ℕ, pos, ◌+◌, ◌+ℤ◌, ◌*ℤ◌, neg_ℤ, ◌≤◌, ◌<◌, ◌^◌, length, get_or, IfOk, ◌==◌, if◌then◌else◌, MatchOption, ◌⊎◌, ◌≢◌, IsTrue, false};
 ghost use Rattle.gd_rules.specs.Schedule.{quantity, load as load_of};
-ghost use Rattle.gd_rules.specs.Question.{crossing};
-ghost use Rattle.gd_system.specs.Pipeline.{element_of};
+ghost use Rattle.gd_rules.specs.Question.{crossing, element as asked_element};
+ghost use Rattle.gd_question.specs.Nodes.{anchor, start, stop};
 ghost use Rattle.gd_schedule.specs.Sizes.{IsSized};
-ghost use Rattle.gd_schedule.specs.Table.{IsPart, IsTable, sends};
+ghost use Rattle.gd_schedule.specs.Surplus.{IsSurplus, IsPassedOn};
+ghost use Rattle.gd_schedule.specs.Table.{IsTable};
 
 use crate::Schedule;
 use gd_question::{Element, Part, Question};
-use gd_units::Dth;
 use std::alloc::{AllocError, Global};
 
 /// Adds to one entry.
@@ -23,62 +23,112 @@ fn add_at(table: &mut [i64], at: usize, amount: i64)
     table[at] += amount;
 }
 
-/// What a line of this quantity brings to its origin: the quantity where gas is received, its negative where a pool is left.
-fn sent(part: Part, quantity: Dth) -> i64
-    ensures is { result ≡ sends (element_of part) quantity }
-    ensures small { IsSized 1_000_000_000 result }
-{
-    let quantity = quantity.get() as i64;
-    match part {
-        Part::Receipt(_, _) => quantity,
-        Part::Pool(_) => -quantity,
-        _ => 0,
-    }
-}
-
-/// Adds what one line brings to each element: along its route, and at its two ends.
-fn add_line(question: &Question, line: usize, quantity: Dth, table: &mut [i64])
-    requires known { line < length question.now.asked.lines }
-    requires sized { length table.old ≡ length question.now.asked.elements }
-    requires room { (e : ℕ) → e < length question.now.asked.elements → IsSized (2 ^ 61) (get_or table.old e (pos 0)) }
-    ensures sized { length table.new ≡ length table.old }
-    ensures added { (e : ℕ) → e < length question.now.asked.elements → get_or table.new e (pos 0) ≡ get_or table.old e (pos 0) +ℤ crossing question.now.asked line e *ℤ pos quantity }
-{
-    question.known();
-    let amount = quantity.get();
-    question.add_along(line, quantity, table);
-    let origin = question.origin(line);
-    add_at(table, origin.0, sent(question.part(origin), quantity));
-    add_at(table, question.dest(line).0, amount as i64);
-}
-
-/// What some of the lines bring to each element by number: so many of them, from one number on. The only error is want of memory.
-///
-/// It asks for one quantity for each line. The parts of all lines add up to the loads.
-pub fn load_part(
-    alloc: Global,
-    question: &Question,
-    schedule: &Schedule,
-    from: usize,
-    count: usize,
-) -> Result<Vec<i64>, AllocError>
+/// Adds what one line brings to its origin's node and takes from its destination's.
+fn add_line(question: &Question, schedule: &Schedule, line: usize, surplus: &mut [i64])
     requires shape { length schedule.now ≡ length question.now.asked.lines }
-    requires known { from + count ≤ length question.now.asked.lines }
-    ensures { IfOk result (λ table. IsPart question.now.asked schedule.now from count table.items) }
+    requires known { line < length question.now.asked.lines }
+    requires before { IsSurplus question.now.asked schedule.now line surplus.old }
+    ensures { IsSurplus question.now.asked schedule.now (line + 1) surplus.new }
 {
     question.known();
     schedule.known();
-    let mut table = vec![in alloc; 0i64; question.element_count()]?;
-    for k in 0..count {
-        let line = from + k;
-        add_line(question, line, schedule.quantity(line), &mut table);
+    let quantity = schedule.quantity(line).get() as i64;
+    add_at(surplus, question.origin(line).0 + 1, quantity);
+    add_at(surplus, question.dest(line).0 + 1, -quantity);
+}
+
+/// The surplus of each node: what lines bring to it less what they take from it. Places come first, then points and pools, each after its element's number.
+fn surplus_of(
+    alloc: Global,
+    question: &Question,
+    schedule: &Schedule,
+) -> Result<Vec<i64>, AllocError>
+    requires { length schedule.now ≡ length question.now.asked.lines }
+    ensures { IfOk result (λ surplus. IsSurplus question.now.asked schedule.now (length question.now.asked.lines) surplus.items) }
+{
+    question.known();
+    let mut surplus = vec![in alloc; 0i64; question.element_count() + 1]?;
+    for line in 0..question.line_count() {
+        add_line(question, schedule, line, &mut surplus);
     }
-    Ok(table)
+    Ok(surplus)
+}
+
+/// How an element joins the node that it brings with an earlier one.
+#[derive(Clone, Copy, Drop)]
+struct Joint {
+    // the earlier node
+    anchor: usize,
+    // whether gas passes towards it
+    inward: bool,
+}
+
+fn joint_of(question: &Question, element: usize) -> Joint
+    requires { element < length question.now.asked.elements }
+    ensures anchor { result.anchor ≡ anchor element (asked_element question.now.asked element) }
+    ensures earlier { result.anchor ≤ element }
+    ensures inward { IsTrue result.inward → (start question.now.asked element ≡ element + 1) × (stop question.now.asked element ≡ result.anchor) }
+    ensures outward { result.inward ≡ false → (start question.now.asked element ≡ result.anchor) × (stop question.now.asked element ≡ element + 1) }
+{
+    question.known();
+    question.placed();
+    match question.part(Element(element)) {
+        Part::Segment(from, to, _) if to.0 == element + 1 => Joint {
+            anchor: from.0,
+            inward: false,
+        },
+        Part::Segment(_, to, _) => Joint {
+            anchor: to.0,
+            inward: true,
+        },
+        Part::Receipt(place, _) => Joint {
+            anchor: place.0,
+            inward: true,
+        },
+        Part::Delivery(place, _) => Joint {
+            anchor: place.0,
+            inward: false,
+        },
+        Part::Pool(place) => Joint {
+            anchor: place.0,
+            inward: false,
+        },
+    }
+}
+
+/// An amount that is brought to the earlier node, counted along the element's direction.
+fn along(joint: Joint, amount: i64) -> i64
+    requires { IsSized (2 ^ 61) amount }
+    ensures { result ≡ (if joint.inward then amount else neg_ℤ amount) }
+{
+    if joint.inward { amount } else { -amount }
+}
+
+/// Lets an element carry the surplus of the node that it brings to the earlier one.
+fn pass_on(
+    question: &Question,
+    schedule: &Schedule,
+    element: usize,
+    surplus: &mut [i64],
+    table: &mut [i64],
+)
+    requires known { element < length question.now.asked.elements }
+    requires before { IsPassedOn question.now.asked schedule.now (element + 1) surplus.old table.old }
+    ensures { IsPassedOn question.now.asked schedule.now element surplus.new table.new }
+{
+    // of it the contract speaks
+    let _ = schedule;
+    question.known();
+    question.placed();
+    let joint = joint_of(question, element);
+    let amount = surplus[element + 1];
+    add_at(surplus, joint.anchor, amount);
+    table[element] = along(joint, amount);
 }
 
 /// The loads of all elements by number, in dekatherms a gas day. The only error is want of memory.
 ///
-/// It asks for one quantity for each line.
+/// It asks for one quantity for each line. From the last element to the first, each carries the surplus of the node that it brings, and so of all behind it, to an earlier one.
 pub fn load_table(
     alloc: Global,
     question: &Question,
@@ -87,7 +137,21 @@ pub fn load_table(
     requires { length schedule.now ≡ length question.now.asked.lines }
     ensures { IfOk result (λ table. IsTable question.now.asked schedule.now table.items) }
 {
-    load_part(alloc, question, schedule, 0, question.line_count())
+    question.known();
+    question.placed();
+    let mut surplus = surplus_of(alloc, question, schedule)?;
+    let count = question.element_count();
+    let mut table = vec![in alloc; 0i64; count]?;
+    for done in 0..count {
+        pass_on(
+            question,
+            schedule,
+            count - 1 - done,
+            &mut surplus,
+            &mut table,
+        );
+    }
+    Ok(table)
 }
 
 /// How often a line crosses an element: 1 where it passes or enters it, -1 where it leaves it as a pool, else 0.

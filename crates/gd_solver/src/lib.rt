@@ -7,6 +7,3 @@ mod answer;
 mod prices;
 
 pub use answer::{Answer, solve, solve_from};
-
-#[cfg(test)]
-mod tests;

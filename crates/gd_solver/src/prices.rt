@@ -2,8 +2,9 @@
 
 ghost use Rattle.std.specs.Prelude.{◌≡◌, ℕ, pos, ◌+◌, ◌<◌, ◌^◌, length, map, IfOk, IsTrue};
 ghost use Rattle.gd_rules.specs.Priced.{price};
-ghost use Rattle.gd_network.specs.Arcs.{start, stop};
-ghost use Rattle.gd_network.specs.Potential.{less, ArePrices};
+ghost use Rattle.gd_question.specs.Nodes.{start, stop};
+ghost use Rattle.gd_network.specs.Potential.{ArePrices};
+ghost use Rattle.gd_rules.specs.Scale.{less};
 ghost use Rattle.gd_mincost.specs.Settled.{potential};
 
 use gd_cost::Cost;

@@ -12,21 +12,21 @@ use Rattle.gd_tree.proofs.Walks.{Hops, made, walk_by}
 use Rattle.gd_tree.proofs.Grown.{below_or, low_falls, route_only, route_made}
 use Rattle.gd_tree.proofs.Agree.{walk_with}
 
-both : (u v : Bool) → u ≡ true → v ≡ true → (u && v) ≡ true
+pub both : (u v : Bool) → u ≡ true → v ≡ true → (u && v) ≡ true
 both u v e f = rw (e, f) refl
 
-parts : (u v : Bool) → (u && v) ≡ true → (u ≡ true) × (v ≡ true)
+pub parts : (u v : Bool) → (u && v) ≡ true → (u ≡ true) × (v ≡ true)
 parts true v e = (refl, e)
 parts false v e = cc
 
 -- the test of one step
-leads_yes : (e : Element) (a b : ℕ) → LeadsTo e a b → leads e a b ≡ true
+pub leads_yes : (e : Element) (a b : ℕ) → LeadsTo e a b → leads e a b ≡ true
 leads_yes (Segment from to capacity) a b h = both (from == a) (to == b) (eq-eqb from a h.0) (eq-eqb to b h.1)
 leads_yes (Receipt place capacity) a b h = absurd h
 leads_yes (Delivery place capacity) a b h = absurd h
 leads_yes (Pool place) a b h = absurd h
 
-leads_so : (e : Element) (a b : ℕ) → leads e a b ≡ true → LeadsTo e a b
+pub leads_so : (e : Element) (a b : ℕ) → leads e a b ≡ true → LeadsTo e a b
 leads_so (Segment from to capacity) a b h = let p = parts (from == a) (to == b) h in (eqb-true from a p.0, eqb-true to b p.1)
 leads_so (Receipt place capacity) a b h = cc
 leads_so (Delivery place capacity) a b h = cc

@@ -4,8 +4,8 @@ pub mod Steps
 pub mod Fields
 pub mod Levels
 pub mod Counts
-pub mod Adds
 pub mod Agree
 pub mod Along
 mod Rows
 pub mod Same
+pub mod Lifts

@@ -1,12 +1,13 @@
 //! The tree of a pipeline's segments, by numbers: segment k joins place k + 1 to an earlier one.
 #![tactic(auto)]
 
-ghost use Rattle.std.specs.Prelude.{◌≡◌, ℕ, ◌+◌, ◌<◌, ◌≤◌, ◌++◌, ◌∷◌, [], List, length, map, get_or, IfOk, MatchOption, MatchResult, IsTrue, ◌↔◌, pos, ◌+ℤ◌, ◌<ℤ◌, ◌≤ℤ◌, set, ◌*◌, ◌^◌, ◌==◌, if◌then◌else◌, true};
+ghost use Rattle.std.specs.Prelude.{◌≡◌, ℕ, ◌+◌, ◌<◌, ◌≤◌, ◌++◌, ◌∷◌, [], List, length, get_or, IfOk, MatchOption, MatchResult, IsTrue, ◌↔◌, ◌==◌, if◌then◌else◌, true};
 ghost use Rattle.std.specs.List.{count_by};
 ghost use Rattle.gd_rules.specs.Question.{Element};
 ghost use Rattle.gd_rules.specs.Question.Element.{Segment as segment, Pool as pool};
 ghost use Rattle.gd_rules.specs.Tree.{IsTree, IsRoute};
 ghost use Rattle.gd_tree.specs.Grown.{Joins, IsGrown, route_of, has_route};
+ghost use Rattle.gd_tree.specs.Lifts.{IsLift, LiftsUp, LiftsDown};
 ghost use Rattle.gd_tree.specs.Steps.{IsStep};
 
 use gd_units::Dth;
@@ -47,20 +48,21 @@ pub struct Step {
     pub to: u32,
 }
 
-/// Adds to one of several sums.
-fn add_at(sums: &mut [i64], at: usize, amount: i64)
-    requires known { at < length sums.old }
-    requires low { pos 0 ≤ℤ amount }
-    requires room { (get_or sums.old at (pos 0) +ℤ amount) <ℤ pos (2 ^ 63) }
-    ensures { sums.new ≡ set sums.old at (get_or sums.old at (pos 0) +ℤ amount) }
-{
-    sums[at] += amount;
+/// Earlier places, one on the way from a place and one on the way to it.
+///
+/// From the place gas flows on to each place no later than `up` just where it does from `up`, and to the place it flows from each place no later than `down` just where it does to `down`.
+#[derive(Clone, Copy, Debug, Drop)]
+pub(crate) struct Lift {
+    up: u32,
+    down: u32,
 }
 
 /// Segments that grew place by place.
 #[derive(Drop)]
 pub struct Tree {
     segments: Vec<Segment>,
+    // of all places but the first
+    lifts: Vec<Lift>,
 }
 
 impl Model for Tree {
@@ -69,11 +71,12 @@ impl Model for Tree {
 
     ghost Value = { List Element };
 
-    ghost use Rattle.gd_tree.specs.View.{segments_of, IsTreeOfSegments};
+    ghost use Rattle.gd_tree.specs.View.{segments_of};
+    ghost use Rattle.gd_tree.specs.Inside.{IsSound};
 
     ghost view = { segments_of };
 
-    ghost invariant = { IsTreeOfSegments };
+    ghost invariant = { IsSound };
 }
 
 impl Tree {
@@ -82,6 +85,7 @@ impl Tree {
     {
         Tree {
             segments: Vec::new(alloc),
+            lifts: Vec::new(alloc),
         }
     }
 
@@ -105,7 +109,8 @@ impl Tree {
         ensures { IfOk result (λ copy. copy ≡ self.now) }
     {
         let segments = Vec::from_slice(alloc, &self.segments)?;
-        Ok(Tree { segments })
+        let lifts = Vec::from_slice(alloc, &self.lifts)?;
+        Ok(Tree { segments, lifts })
     }
 
     /// Whether both have the same segments with the same capacities.
@@ -115,12 +120,66 @@ impl Tree {
         self.segments.as_slice() == other.segments.as_slice()
     }
 
+    /// The lift of a place; the first place stays where it is.
+    fn lift(&self, place: u32) -> Lift
+        requires { place ≤ length self.now }
+        ensures lift { IsLift self.now place result }
+        ensures grown { IsGrown (length self.now) self.now }
+    {
+        let lifts = &self.lifts;
+        if place == 0 {
+            return Lift { up: 0, down: 0 };
+        }
+        lifts[place as usize - 1]
+    }
+
+    /// Where the lift of a new place leads that can send to this one: here, or where two lifts lead from here, if they pass equally many numbers. So a long chain is climbed in few lifts.
+    fn next_up(&self, place: u32) -> u32
+        requires { place ≤ length self.now }
+        ensures { LiftsUp self.now place result }
+    {
+        let first = self.lift(place).up;
+        let second = self.lift(first).up;
+        if place - first == first - second {
+            second
+        } else {
+            place
+        }
+    }
+
+    /// The same of a new place to which this one can send.
+    fn next_down(&self, place: u32) -> u32
+        requires { place ≤ length self.now }
+        ensures { LiftsDown self.now place result }
+    {
+        let first = self.lift(place).down;
+        let second = self.lift(first).down;
+        if place - first == first - second {
+            second
+        } else {
+            place
+        }
+    }
+
     /// Joins a new place to an earlier one.
     pub fn push(&mut self, next: Segment) -> Result<(), AllocError>
         requires { Joins (length self.old) (segment next.from next.to next.capacity) }
         ensures { MatchResult result (λ _. self.new ≡ self.old ++ segment next.from next.to next.capacity ∷ []) (λ _. self.new ≡ self.old) }
     {
+        let lift = if next.to < next.from {
+            Lift {
+                up: self.next_up(next.to),
+                down: next.from,
+            }
+        } else {
+            Lift {
+                up: next.to,
+                down: self.next_down(next.from),
+            }
+        };
+        self.lifts.reserve(1)?;
         self.segments.push(next)?;
+        self.lifts.push(lift).unwrap();
         Ok(())
     }
 
@@ -160,21 +219,53 @@ impl Tree {
         }
     }
 
-    /// Whether there is a route from one place to another: each segment on the way is passed along its direction.
+    /// An earlier place on the way from one place to another, or the first itself: as far as lifts lead without passing the other by.
+    fn lift_up(&self, from: u32, to: u32) -> u32
+        requires from_known { from ≤ length self.now }
+        requires to_known { to ≤ length self.now }
+        ensures below { result ≤ from }
+        ensures same { has_route self.now (length self.now) result to ≡ has_route self.now (length self.now) from to }
+    {
+        let mut at = from;
+        let mut up = self.lift(at).up;
+        while to <= up && up < at {
+            at = up;
+            up = self.lift(at).up;
+        }
+        at
+    }
+
+    /// The same on the way to a place.
+    fn lift_down(&self, from: u32, to: u32) -> u32
+        requires from_known { from ≤ length self.now }
+        requires to_known { to ≤ length self.now }
+        ensures below { result ≤ to }
+        ensures same { has_route self.now (length self.now) from result ≡ has_route self.now (length self.now) from to }
+    {
+        let mut at = to;
+        let mut down = self.lift(at).down;
+        while from <= down && down < at {
+            at = down;
+            down = self.lift(at).down;
+        }
+        at
+    }
+
+    /// Whether there is a route from one place to another: each segment on the way is passed along its direction. Lifts shorten long ways.
     pub fn runs(&self, from: u32, to: u32) -> bool
         requires from_known { from ≤ length self.now }
         requires to_known { to ≤ length self.now }
         ensures is { result ≡ has_route self.now (length self.now) from to }
         ensures exists { IsTrue result ↔ ((route : List ℕ) × IsRoute self.now from route to) }
     {
-        let mut a = from;
-        let mut b = to;
+        let mut a = self.lift_up(from, to);
+        let mut b = self.lift_down(a, to);
         while let Some(step) = self.step(a, b) {
             if !step.along {
                 return false;
             }
-            a = step.from;
-            b = step.to;
+            a = self.lift_up(step.from, step.to);
+            b = self.lift_down(a, step.to);
         }
         true
     }
@@ -223,25 +314,6 @@ impl Tree {
             b = step.to;
         }
         false
-    }
-
-    /// Adds an amount at each segment on the way.
-    pub fn add_along(&self, from: u32, to: u32, amount: Dth, sums: &mut [i64])
-        requires from_known { from ≤ length self.now }
-        requires to_known { to ≤ length self.now }
-        requires long { length self.now ≤ length sums.old }
-        requires room { (e : ℕ) → (get_or sums.old e (pos 0) +ℤ pos amount) <ℤ pos (2 ^ 63) }
-        ensures sized { length sums.new ≡ length sums.old }
-        ensures added { (e : ℕ) → get_or sums.new e (pos 0) ≡ get_or sums.old e (pos 0) +ℤ pos (count_by (λ k. k == e) (route_of self.now (length self.now) from to) * amount) }
-    {
-        let signed = amount.get() as i64;
-        let mut a = from;
-        let mut b = to;
-        while let Some(step) = self.step(a, b) {
-            add_at(sums, step.segment as usize, signed);
-            a = step.from;
-            b = step.to;
-        }
     }
 }
 

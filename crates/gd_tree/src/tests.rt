@@ -33,9 +33,5 @@ fn routes(rt: HostRuntime) -> Result<(), Fail> {
     assert!(rt; !tree.runs(0, 3));
     assert!(rt; tree.passes(0, 2, 1));
     assert!(rt; !tree.passes(0, 1, 1));
-    let five = Dth::new(5).ok().ok_or("5 is a quantity")?;
-    let mut sums = [1i64, 2, 3, 4];
-    tree.add_along(3, 2, five, &mut sums);
-    assert_eq!(rt; sums.as_slice(), [1i64, 7, 8, 4].as_slice());
     Ok(())
 }

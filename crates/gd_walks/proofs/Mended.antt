@@ -5,7 +5,8 @@ use Rattle.std.proofs.lemmas.List.{get_or_default}
 use Rattle.std.proofs.lemmas.Bool.{cases_lt}
 use Rattle.gd_rules.specs.Sum.{sum_nat}
 use Rattle.gd_network.specs.Arcs.{Net, lower_at, upper_at}
-use Rattle.gd_network.specs.Flow.{flow_at, net, inside_part, IsCirculation, IsWithin}
+use Rattle.gd_network.specs.Flow.{flow_at, net, IsCirculation, IsWithin}
+use Rattle.gd_question.specs.Nodes.{inside_part}
 use Rattle.gd_walks.specs.declared.Step.{Step}
 use Rattle.gd_walks.specs.Steps.{room, moved, Once, HasRooms, IsNearer, Mends, amiss, all_amiss}
 use Rattle.gd_walks.proofs.Pushed.{nearer_short, nearer_over, not_amiss, is_amiss, nat_less}

@@ -11,8 +11,9 @@ use Rattle.gd_rules.specs.Sum.{sum_nat, sum_int}
 use Rattle.gd_network.specs.Arcs.{Net, no_arc, from_at, to_at, lower_at, upper_at}
 use Rattle.gd_network.specs.Begun.{AreSound}
 use Rattle.gd_network.specs.declared.arcs.Arc.{Arc}
-use Rattle.gd_network.specs.Flow.{flow_at, inside_part, carried, net}
-use Rattle.gd_network.proofs.Sums.{int_same}
+use Rattle.gd_network.specs.Flow.{flow_at, net}
+use Rattle.gd_question.specs.Nodes.{inside_part, carried}
+use Rattle.gd_rules.proofs.IntSums.{int_same}
 use Rattle.gd_walks.specs.declared.Step.{Step}
 use Rattle.gd_walks.specs.Steps.{tail_of, head_of, room, moved, Follows, above_none, amiss}
 

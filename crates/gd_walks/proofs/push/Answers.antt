@@ -4,7 +4,8 @@ use borrow.Author.Differences.{ints}
 use Rattle.std.proofs.Math.Seq.{drop-cons}
 use Rattle.std.specs.Int.{w64}
 use Rattle.std.proofs.lemmas.List.{get_or_default, length-set}
-use Rattle.gd_network.specs.Flow.{flow_at, inside_part}
+use Rattle.gd_network.specs.Flow.{flow_at}
+use Rattle.gd_question.specs.Nodes.{inside_part}
 use Rattle.gd_walks.specs.declared.Step.{Step}
 use Rattle.gd_walks.specs.Steps.{head_of, moved, pushed}
 use Rattle.gd_walks.proofs.Pushed.{step_carries, step_rooms, step_nearer, step_leaves, follows_next, here, there, bounds_fit}

@@ -1,7 +1,8 @@
 use Rattle.std.proofs.Common.{◌≡◌, ◌≢◌, ℕ, ◌<◌, ◌≤◌, Bool, length, get_or, drop, ◌+ℤ◌, ◌≤ℤ◌, FitsSigned}
 use Rattle.std.specs.Int.{w64}
 use Rattle.gd_network.specs.Arcs.{lower_at, upper_at}
-use Rattle.gd_network.specs.Flow.{flow_at, net, inside_part}
+use Rattle.gd_network.specs.Flow.{flow_at, net}
+use Rattle.gd_question.specs.Nodes.{inside_part}
 use Rattle.gd_walks.specs.Steps.{room, moved, pushed, Follows, amiss}
 use Rattle.gd_walks.specs.declared.Step.{Step}
 use Rattle.gd_walks.proofs.push.Given as goal

@@ -28,4 +28,4 @@ returns-clause-side c =
     (second.size ∙ points)
     (λ k h. second.entries k (subst (λ m. k < m) (sym points) h) ∙ ap (λ m. get_or marks (m + k) false) places)
     (λ k h. third.entries k (subst (λ m. k < m) (sym pools) h) ∙ ap (λ m. get_or marks (m + c.point_count-points.result + k) false) places ∙ ap (λ m. get_or marks (length p.tree + 1 + m + k) false) points)
-    all q.asked refl (c.elements_bring.ensures.ordered p q.asked c.known.ensures.placed))
+    all q.asked refl (c.elements_bring.ensures p q.asked c.known.ensures.placed))

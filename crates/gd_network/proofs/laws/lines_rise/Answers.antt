@@ -1,6 +1,6 @@
 use Rattle.gd_rules.specs.Words.{whole, tariff}
 use Rattle.gd_rules.proofs.Words.{whole_lawful, tariff_lawful}
-use Rattle.gd_network.proofs.Telescope.{line_rise}
+use Rattle.gd_schedule.proofs.Telescope.{line_rise}
 use Rattle.gd_network.proofs.laws.lines_rise.Goals as goal
 
 pub returns-clause-numbers : goal.returns-clause-numbers

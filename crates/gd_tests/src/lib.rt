@@ -1,0 +1,15 @@
+//! Worked examples by calls that stand on questions: certificates, networks, repairs and the solver. Each question is a text.
+//!
+//! There is nothing here but tests.
+#![tactic(auto)]
+
+#[cfg(test)]
+mod certificate;
+#[cfg(test)]
+mod flow;
+#[cfg(test)]
+mod network;
+#[cfg(test)]
+mod solver;
+#[cfg(test)]
+mod texts;

@@ -1,0 +1,130 @@
+//! Networks of one segment of 100 between two places, a receipt point, a delivery point and two lines.
+
+use crate::texts::{asked, scheduled};
+use gd_network::Network;
+use gd_question::{Element, Question};
+use gd_schedule::Schedule;
+use std::alloc::{AllocError, Global};
+use std::process::Abort;
+use std::test::Fail;
+
+const TWO_LINES: &str = "\
+segment,S1,A,B,100,,,
+point,R1,receipt,A,OP,1000,,
+point,D1,delivery,B,OP,1000,,
+question,DEMO,1,1,,,,
+line,R1,D1,1,0,80,,
+line,R1,D1,4,33,50,,
+";
+
+/// What the network of this schedule begins with.
+fn begun(alloc: Global, question: &Question, schedule: &Schedule) -> Result<Vec<i64>, AllocError> {
+    let network = Network::at(alloc, question, schedule)?;
+    let first = network.first().try_clone(alloc)?;
+    Ok(first.into_amounts())
+}
+
+/// The network of this schedule begins with these amounts.
+fn begins(
+    rt: &impl Abort,
+    alloc: Global,
+    question: &Question,
+    numbers: &[u64],
+    amounts: &[i64],
+) -> Result<(), Fail> {
+    let schedule = scheduled(rt, alloc, numbers)?;
+    let first = begun(alloc, question, &schedule)?;
+    assert_eq!(rt; first.as_slice(), amounts);
+    Ok(())
+}
+
+const FLOORS: [i64; 23] = [
+    33, 33, 33, 0, 0, 0, 0, 0, 0, 0, 0, 0, 0, 5, 5, 5, 5, 5, 5, 3, 0, 0, 0,
+];
+
+/// The second entry is missing: the line comes up to its floor of 33.
+const SHORT: [i64; 23] = [
+    96, 96, 96, 8, 8, 8, 8, 8, 8, 8, 7, 0, 0, 5, 5, 5, 5, 5, 5, 3, 0, 0, 0,
+];
+
+/// The third entry is dropped, and the others come down to their ceilings.
+const LONG: [i64; 23] = [
+    130, 130, 130, 8, 8, 8, 8, 8, 8, 8, 8, 8, 8, 5, 5, 5, 5, 5, 5, 5, 5, 5, 5,
+];
+
+/// Schedules that are too short, too long and too large are brought within bounds.
+fn begins_within_bounds(rt: &impl Abort, alloc: Global, question: &Question) -> Result<(), Fail> {
+    begins(rt, alloc, question, [].as_slice(), FLOORS.as_slice())?;
+    begins(rt, alloc, question, [63].as_slice(), SHORT.as_slice())?;
+    let long = [81, 1_000_000_000, 7];
+    begins(rt, alloc, question, long.as_slice(), LONG.as_slice())
+}
+
+#[test]
+fn begins_with_any_schedule(rt: HostRuntime) -> Result<(), Fail> {
+    let asked = asked(rt.alloc(), TWO_LINES.as_bytes())?;
+    begins_within_bounds(&rt, rt.alloc(), &asked.question)
+}
+
+/// The network of no schedule begins with the floors.
+fn begun_alone(alloc: Global, question: &Question) -> Result<Vec<i64>, AllocError> {
+    let network = Network::of(alloc, question)?;
+    let first = network.first().try_clone(alloc)?;
+    Ok(first.into_amounts())
+}
+
+#[test]
+fn begins_with_floors(rt: HostRuntime) -> Result<(), Fail> {
+    let asked = asked(rt.alloc(), TWO_LINES.as_bytes())?;
+    let first = begun_alone(rt.alloc(), &asked.question)?;
+    assert_eq!(rt; first.as_slice(), FLOORS.as_slice());
+    Ok(())
+}
+
+/// The arcs, nodes and links of the two lines' network.
+fn shows_arcs(rt: &impl Abort, network: &Network<'_>) {
+    assert_eq!(rt; network.node_count(), 4);
+    assert_eq!(rt; network.arc_count(), 23);
+    assert!(rt; network.ends(Element(0)) == Some((0, 1)));
+    assert!(rt; network.ends(Element(2)) == Some((1, 3)));
+    assert!(rt; network.ends(Element(3)).is_none());
+    assert_eq!(rt; network.links(0), [0, 1].as_slice());
+    assert_eq!(rt; network.links(3).len(), 21);
+}
+
+#[test]
+fn arcs_and_links(rt: HostRuntime) -> Result<(), Fail> {
+    let asked = asked(rt.alloc(), TWO_LINES.as_bytes())?;
+    let network = Network::of(rt.alloc(), &asked.question)?;
+    shows_arcs(&rt, &network);
+    Ok(())
+}
+
+/// The schedule of a schedule's flow; `None` where it isn't allowed.
+fn there_and_back(
+    alloc: Global,
+    question: &Question,
+    schedule: &Schedule,
+) -> Result<Option<Schedule>, AllocError> {
+    let network = Network::of(alloc, question)?;
+    let Ok(()) = schedule.allowed(alloc, question) else {
+        return Ok(None);
+    };
+    let flow = network.flow_of(alloc, schedule)?;
+    let back = network.schedule_of(alloc, &flow)?;
+    Ok(Some(back))
+}
+
+/// A schedule's flow gives it back.
+fn comes_back(rt: &impl Abort, alloc: Global, question: &Question) -> Result<(), Fail> {
+    let schedule = scheduled(rt, alloc, [63, 37].as_slice())?;
+    let back = there_and_back(alloc, question, &schedule)?.ok_or("not allowed")?;
+    assert_eq!(rt; back.quantities(), schedule.quantities());
+    Ok(())
+}
+
+#[test]
+fn flows_come_back(rt: HostRuntime) -> Result<(), Fail> {
+    let asked = asked(rt.alloc(), TWO_LINES.as_bytes())?;
+    comes_back(&rt, rt.alloc(), &asked.question)
+}

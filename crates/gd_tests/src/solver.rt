@@ -1,0 +1,95 @@
+//! The solver.
+
+use crate::texts::{asked, scheduled};
+use gd_certificate::{check, check_cut};
+use gd_question::Question;
+use gd_solver::{Answer, solve, solve_from};
+use std::alloc::Global;
+use std::process::Abort;
+use std::test::Fail;
+
+/// Two segments one after another, a long line over both, and a short one on each.
+const LONG_AND_SHORT: &str = "\
+segment,S1,A,B,100,,,
+segment,S2,B,C,100,,,
+point,RA,receipt,A,OP,1000,,
+point,RB,receipt,B,OP,1000,,
+point,DB,delivery,B,OP,1000,,
+point,DC,delivery,C,OP,1000,,
+question,DEMO,1,1,,,,
+line,RA,DC,4,0,100,,
+line,RA,DB,4,0,100,,
+line,RB,DC,4,0,100,,
+";
+
+/// Whether the answer is these quantities, with prices that pass.
+fn is_best(alloc: Global, question: &Question, answer: &Answer, numbers: &[u64]) -> bool {
+    let Answer::Best(schedule, prices) = answer else {
+        return false;
+    };
+    let given = schedule.quantities().iter().map(|quantity| quantity.get());
+    check(alloc, question, schedule, prices).is_ok() && given.eq(numbers.iter().copied())
+}
+
+/// The short lines go before the long one.
+fn solves(rt: &impl Abort, alloc: Global, question: &Question) -> Result<(), Fail> {
+    let answer = solve(alloc, question)?;
+    assert!(rt; is_best(alloc, question, &answer, [0, 100, 100].as_slice()));
+    Ok(())
+}
+
+#[test]
+fn short_lines_go_before_a_long_one(rt: HostRuntime) -> Result<(), Fail> {
+    let asked = asked(rt.alloc(), LONG_AND_SHORT.as_bytes())?;
+    solves(&rt, rt.alloc(), &asked.question)
+}
+
+/// Which schedule it begins from makes no difference here.
+fn solves_from(
+    rt: &impl Abort,
+    alloc: Global,
+    question: &Question,
+    numbers: &[u64],
+) -> Result<(), Fail> {
+    let first = scheduled(rt, alloc, numbers)?;
+    let answer = solve_from(alloc, question, &first)?;
+    assert!(rt; is_best(alloc, question, &answer, [0, 100, 100].as_slice()));
+    Ok(())
+}
+
+/// A schedule to begin with may be too short or too long, and its quantities too large.
+fn solves_from_each(rt: &impl Abort, alloc: Global, question: &Question) -> Result<(), Fail> {
+    solves_from(rt, alloc, question, [100, 0].as_slice())?;
+    solves_from(rt, alloc, question, [50, 50, 50].as_slice())?;
+    solves_from(rt, alloc, question, [1_000_000_000; 7].as_slice())
+}
+
+#[test]
+fn begins_from_any_schedule(rt: HostRuntime) -> Result<(), Fail> {
+    let asked = asked(rt.alloc(), LONG_AND_SHORT.as_bytes())?;
+    solves_from_each(&rt, rt.alloc(), &asked.question)
+}
+
+/// A floor of 101 can't pass a segment of 100.
+const FLOOR_ABOVE_CAPACITY: &str = "\
+segment,S1,A,B,100,,,
+point,R1,receipt,A,OP,1000,,
+point,D1,delivery,B,OP,1000,,
+question,DEMO,1,1,,,,
+line,R1,D1,4,101,200,,
+";
+
+/// One dekatherm too many has to pass the segment.
+fn is_impossible(rt: &impl Abort, alloc: Global, question: &Question) -> Result<(), Fail> {
+    let Answer::Impossible(cut) = solve(alloc, question)? else {
+        return Err("a schedule".into());
+    };
+    assert!(rt; check_cut(question, &cut) == Ok(1));
+    Ok(())
+}
+
+#[test]
+fn a_floor_above_a_capacity_is_impossible(rt: HostRuntime) -> Result<(), Fail> {
+    let asked = asked(rt.alloc(), FLOOR_ABOVE_CAPACITY.as_bytes())?;
+    is_impossible(&rt, rt.alloc(), &asked.question)
+}
