@@ -1,5 +1,4 @@
-use Rattle.std.proofs.Common.{rules, ◌≡◌, ◌≤◌, ℕ, List, [], length, map, sym, subst, arith}
-use Rattle.std.specs.Prelude.{All}
+use Rattle.std.proofs.Common.{rules, ℕ, List, [], map, sym, subst, arith}
 use Rattle.std.specs.List.{IsDistinct}
 use Rattle.gd_system.specs.Pipeline.{Pipeline}
 use Rattle.gd_system.specs.Known.{IsSystem}
