@@ -7,6 +7,7 @@ ghost use Rattle.gd_mincost.specs.Residual.{IsFeasible};
 ghost use Rattle.gd_mincost.specs.Closed.{AreShown};
 
 use crate::gains::gains;
+use crate::part::Part;
 use crate::residual::Residual;
 use crate::walk::push_closed;
 use gd_cost::{ByClass, Cost};
@@ -60,7 +61,8 @@ impl<'q, C: Cost> Best<'q, C> {
 
 /// Pushes along closed walks that gain until there is none (Klein), and answers potentials that show it.
 ///
-/// What the flow is worth rises at each push.
+/// What the flow is worth rises at each push. A search takes a part of the steps, and the next part where no walk of this
+/// one gains, up to all of them.
 fn rise<C: Cost>(
     alloc: Global,
     network: &Network<'_>,
@@ -73,11 +75,15 @@ fn rise<C: Cost>(
     ensures shown { IfOk result (λ labels. AreShown C.scale C.within (length network.now.question.asked.elements + 1) network.now.arcs flow.new (map C.meaning gains.now) (map C.meaning labels.items)) }
 {
     network.known();
+    let mut part = Part::first();
     loop {
-        let residual = Residual::of(alloc, network, gains, flow)?;
+        let residual = Residual::of(alloc, network, gains, flow, part)?;
         match potentials(alloc, &residual.links, network.node_count())? {
-            Found::Labels(labels) => return Ok(labels),
             Found::Closed(walk) => push_closed(alloc, network, &residual, gains, flow, &walk)?,
+            Found::Labels(labels) => match part.next() {
+                Some(next) => part = next,
+                None => return Ok(labels),
+            },
         }
     }
 }

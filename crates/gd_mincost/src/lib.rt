@@ -3,6 +3,7 @@
 
 mod best;
 mod gains;
+mod part;
 mod residual;
 mod walk;
 

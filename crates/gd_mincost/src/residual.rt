@@ -1,11 +1,13 @@
 //! The links along which a flow can change.
 
-ghost use Rattle.std.specs.Prelude.{◌≡◌, ◌<◌, ◌++◌, ◌∷◌, [], pos, ◌<ℤ◌, length, map, IfOk, OnOk};
+ghost use Rattle.std.specs.Prelude.{◌≡◌, ◌<◌, ◌++◌, ◌∷◌, [], pos, ◌≤ℤ◌, ◌<ℤ◌, length, map, IfOk, OnOk};
 ghost use Rattle.gd_network.specs.Flow.{IsWithin};
 ghost use Rattle.gd_walks.specs.Steps.{room};
 ghost use Rattle.gd_mincost.specs.Gains.{AreGains};
+ghost use Rattle.gd_mincost.specs.Part.{IsPart, IsLast};
 ghost use Rattle.gd_mincost.specs.Residual.{IsSound, IsWhole, Holds, Keeps};
 
+use crate::part::Part;
 use gd_cost::Cost;
 use gd_labels::Links;
 use gd_network::Network;
@@ -70,24 +72,26 @@ impl<C: Cost> Residual<C> {
         Ok(())
     }
 
-    /// Adds the link of a step, where the step has room.
+    /// Adds the link of a step, where the step has so much room.
     fn add(
         &mut self,
         network: &Network<'_>,
         gains: &[C],
         flow: &[i64],
         step: Step,
+        least: i64,
     ) -> Result<(), AllocError>
         requires arc { step.arc < length network.now.arcs }
         requires gains { AreGains C.scale C.within (length network.now.arcs) (map C.meaning gains.now) }
         requires size { length flow.now ≡ length network.now.arcs }
         requires within { IsWithin network.now.arcs flow.now }
+        requires least { pos 0 <ℤ least }
         requires sound { IsSound C.scale C.meaning network.now.arcs flow.now (map C.meaning gains.now) self.old }
         ensures sound { OnOk result (IsSound C.scale C.meaning network.now.arcs flow.now (map C.meaning gains.now) self.new) }
         ensures kept { OnOk result (Keeps self.old.steps.items self.new.steps.items) }
-        ensures added { OnOk result (pos 0 <ℤ room network.now.arcs flow.now step → Holds self.new.steps.items step) }
+        ensures added { OnOk result (least ≤ℤ room network.now.arcs flow.now step → Holds self.new.steps.items step) }
     {
-        if room(network, flow, step) <= 0 {
+        if room(network, flow, step) < least {
             return Ok(());
         }
         let arc = network.arc(step.arc);
@@ -99,23 +103,27 @@ impl<C: Cost> Residual<C> {
         }
     }
 
-    /// The links of a flow within its bounds: along each arc that can carry more, and back along each that can carry less.
+    /// The links of a flow within its bounds, of the steps that take part: along each arc that can carry so much more, and
+    /// back along each that can carry so much less.
     pub(crate) fn of(
         alloc: Global,
         network: &Network<'_>,
         gains: &[C],
         flow: &[i64],
+        part: Part,
     ) -> Result<Residual<C>, AllocError>
         requires gains { AreGains C.scale C.within (length network.now.arcs) (map C.meaning gains.now) }
         requires size { length flow.now ≡ length network.now.arcs }
         requires within { IsWithin network.now.arcs flow.now }
+        requires part { IsPart part }
         ensures sound { IfOk result (IsSound C.scale C.meaning network.now.arcs flow.now (map C.meaning gains.now)) }
-        ensures whole { IfOk result (λ residual. IsWhole network.now.arcs flow.now (length network.now.arcs) residual.steps.items) }
+        ensures whole { IfOk result (λ residual. IsLast part → IsWhole network.now.arcs flow.now (length network.now.arcs) residual.steps.items) }
     {
         let mut residual = Residual::none(alloc);
         for arc in 0..network.arc_count() {
-            residual.add(network, gains, flow, Step { arc, back: false })?;
-            residual.add(network, gains, flow, Step { arc, back: true })?;
+            let least = part.least_room(network, arc);
+            residual.add(network, gains, flow, Step { arc, back: false }, least)?;
+            residual.add(network, gains, flow, Step { arc, back: true }, least)?;
         }
         Ok(residual)
     }

@@ -1,6 +1,9 @@
 //! One segment of 100 between two places, a receipt point, a delivery point and two lines of class 1 with ceilings of 100, of which the second has a floor of 35.
 
+ghost use Rattle.gd_mincost.specs.Part.{IsPart};
+
 use crate::gains::gains;
+use crate::part::Part;
 use crate::residual::Residual;
 use crate::walk::least_room;
 use gd_cost::Tariff;
@@ -72,19 +75,29 @@ fn schedule(rt: &impl Abort, alloc: Global) -> Schedule {
     Schedule::of(quantities)
 }
 
-/// The links of a schedule's flow; `None` where the schedule isn't allowed.
+/// The last part, in which each step with room takes part.
+fn last() -> Part
+    ensures { IsPart result }
+{
+    Part { class: 8, least: 1 }
+}
+
+/// The links of a schedule's flow, of the steps that take part; `None` where the schedule isn't allowed.
 fn links(
     alloc: Global,
     network: &Network<'_>,
     schedule: &Schedule,
-) -> Result<Option<Residual<Tariff>>, AllocError> {
+    part: Part,
+) -> Result<Option<Residual<Tariff>>, AllocError>
+    requires { IsPart part }
+{
     let question = network.question();
     let Ok(()) = schedule.allowed(alloc, question) else {
         return Ok(None);
     };
     let flow = network.flow_of(alloc, schedule)?;
     let gains = gains(alloc, network)?;
-    let residual = Residual::of(alloc, network, &gains, flow.amounts())?;
+    let residual = Residual::of(alloc, network, &gains, flow.amounts(), part)?;
     Ok(Some(residual))
 }
 
@@ -109,7 +122,7 @@ fn links_with_room(rt: HostRuntime) -> Result<(), Fail> {
     let alloc = rt.alloc();
     let question = question(&rt, alloc);
     let network = Network::of(alloc, &question)?;
-    let residual = links(alloc, &network, &schedule(&rt, alloc))?.ok_or("not allowed")?;
+    let residual = links(alloc, &network, &schedule(&rt, alloc), last())?.ok_or("not allowed")?;
     assert_eq!(rt; residual.steps.len(), 24);
     assert!(rt; link(&residual, 0, false).is_none());
     assert!(rt; link(&residual, 0, true) == Some((1, 0, 0, 0)));
@@ -118,6 +131,35 @@ fn links_with_room(rt: HostRuntime) -> Result<(), Fail> {
     // Three tenths are filled by the floor.
     assert!(rt; link(&residual, 15, true).is_none());
     assert!(rt; link(&residual, 16, true) == Some((2, 3, -1, 4)));
+    Ok(())
+}
+
+/// Class 1 is done before class 2 begins, and the room halves within each.
+#[test]
+fn parts(rt: HostRuntime) -> Result<(), Fail> {
+    let half = Part {
+        class: 3,
+        least: 10,
+    }
+    .next()
+    .ok_or("no part")?;
+    assert!(rt; half.class == 3 && half.least == 5);
+    let class = Part { class: 1, least: 1 }.next().ok_or("no part")?;
+    assert!(rt; class.class == 2 && class.least == Part::first().least);
+    assert!(rt; last().next().is_none());
+    Ok(())
+}
+
+/// Steps with less room than 8 don't take part, nor do those of later classes: no link along arc 9, one back along arc 3.
+#[test]
+fn links_of_a_part(rt: HostRuntime) -> Result<(), Fail> {
+    let alloc = rt.alloc();
+    let question = question(&rt, alloc);
+    let network = Network::of(alloc, &question)?;
+    let part = Part { class: 1, least: 8 };
+    let residual = links(alloc, &network, &schedule(&rt, alloc), part)?.ok_or("not allowed")?;
+    assert!(rt; link(&residual, 9, false).is_none());
+    assert!(rt; link(&residual, 3, true) == Some((2, 3, -1, 1)));
     Ok(())
 }
 

@@ -1,13 +1,18 @@
-use Rattle.std.proofs.Common.{◌-◌, ◌*◌, length, map}
+use Rattle.std.proofs.Common.{◌+◌, ◌-◌, ◌*◌, ◌^◌, length, map}
 use Rattle.gd_mincost.specs.Gains.{value}
+use Rattle.gd_mincost.specs.Part.{IsPart, after}
 use Rattle.gd_mincost.specs.Residual.{IsFeasible}
 use Rattle.gd_mincost.proofs.best.rise.Given as goal
 
 abbrev pub invariant-loop-residual : goal.invariant-loop-residual
-invariant-loop-residual g l = IsFeasible l.network.arcs l.flow
+invariant-loop-residual g l = record {
+  feasible : IsFeasible l.network.arcs l.flow;
+  part : IsPart l.part;
+}
 
--- how many ranks lie above that of what the flow is worth
+-- how many ranks lie above that of what the flow is worth, and then how many parts are left
 abbrev pub decreases-loop-residual : goal.decreases-loop-residual
 decreases-loop-residual g l =
-    g.C.Cost.size (length l.network.arcs * 16000000000)
-    - g.C.Cost.rank (length l.network.arcs * 16000000000) (value g.C.Cost.scale (map g.C.Cost.meaning l.gains) l.network.arcs l.flow)
+    (g.C.Cost.size (length l.network.arcs * 16000000000)
+    - g.C.Cost.rank (length l.network.arcs * 16000000000) (value g.C.Cost.scale (map g.C.Cost.meaning l.gains) l.network.arcs l.flow)) * 2 ^ 30
+    + after l.part
