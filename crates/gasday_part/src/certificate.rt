@@ -1,6 +1,6 @@
 //! What is told of prices and of cuts.
 
-ghost use Rattle.std.specs.Prelude.{◌≡◌, IfOk};
+ghost use Rattle.std.specs.Prelude.{IfOk};
 ghost use Rattle.gd_text.specs.Members.{members_of as set_of};
 ghost use Rattle.gd_text.specs.Prices.{prices_of as table_of};
 ghost use Rattle.gasday_part.specs.Answers as spec;

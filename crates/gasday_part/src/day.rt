@@ -1,6 +1,6 @@
 //! What is told of a gas day: its calendar, or why it has none.
 
-ghost use Rattle.std.specs.Prelude.{◌≡◌, IfOk};
+ghost use Rattle.std.specs.Prelude.{IfOk};
 ghost use Rattle.jiff.specs.Words.{plain_zone};
 ghost use Rattle.gasday_part.specs.Answers as spec;
 ghost use Rattle.gasday_part.specs.AnswerSeen.{answer_seen};

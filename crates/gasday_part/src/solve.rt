@@ -1,6 +1,6 @@
 //! What is told of a question that is solved.
 
-ghost use Rattle.std.specs.Prelude.{◌≡◌, ℕ, List, map, IfOk};
+ghost use Rattle.std.specs.Prelude.{map, IfOk};
 ghost use Rattle.gd_rules.specs.Schedule.{IsAllowed};
 ghost use Rattle.gd_rules.specs.Spread.{IsBest};
 ghost use Rattle.gd_rules.specs.Tariff.{IsPricedByTariff};

@@ -1,6 +1,6 @@
 //! The check of a certificate.
 
-ghost use Rattle.std.specs.Prelude.{◌≡◌, ◌≢◌, ℕ, pos, ◌+◌, ◌<◌, ◌^◌, length, map, get_or, IsTrue, OnOk, IfErr, List};
+ghost use Rattle.std.specs.Prelude.{◌≡◌, ℕ, pos, ◌<◌, ◌^◌, length, map, get_or, IsTrue, OnOk, IfErr, List};
 ghost use Rattle.gd_rules.specs.Question.{element as asked_element};
 ghost use Rattle.gd_rules.specs.Schedule.{IsAllowed, HasBetterTotals};
 ghost use Rattle.gd_rules.specs.Spread.{IsBest};

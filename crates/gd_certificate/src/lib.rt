@@ -3,7 +3,7 @@
 //! Lines and elements are counted from 0, in the question's order. Only the calls that are handed an allocator take memory.
 #![tactic(auto)]
 
-ghost use Rattle.std.specs.Prelude.{◌≡◌, length, IfOk};
+ghost use Rattle.std.specs.Prelude.{◌≡◌, IfOk};
 
 mod best;
 mod checked;

@@ -1,4 +1,4 @@
-ghost use Rattle.std.specs.Prelude.{◌≡◌, ℕ, ◌<◌, ◌≤◌, ◌==◌, ◌++◌, ◌∷◌, [], length, None, Some, IfOk, IfErr, OnOk, OnErr, Ok, Err, ◌⊎◌};
+ghost use Rattle.std.specs.Prelude.{◌≡◌, ◌<◌, ◌==◌, ◌++◌, ◌∷◌, [], length, None, Some, IfErr, OnOk, OnErr, Ok, Err, ◌⊎◌};
 ghost use Rattle.gd_contracts.specs.Held.{none_on, contract_named, checked_contract, after_contract};
 ghost use Rattle.gd_contracts.specs.Held as spec;
 ghost use Rattle.gd_contracts.specs.Known.{IsHeld};

@@ -1,4 +1,4 @@
-ghost use Rattle.std.specs.Prelude.{◌≡◌, ℕ, ℤ, pos, neg_ℤ, ◌≤◌, IsTrue};
+ghost use Rattle.std.specs.Prelude.{◌≡◌, ℕ, pos, neg_ℤ, ◌≤◌, IsTrue};
 ghost use Rattle.gd_rules.specs.Units.{NeverRises};
 ghost use Rattle.gd_rules.specs.Words.{at_class, listed};
 ghost use Rattle.gd_rules.proofs.ByClass.{lex_fits, lex_falls, pair_fits, pair_falls, one_pair_fits};

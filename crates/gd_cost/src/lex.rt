@@ -1,4 +1,4 @@
-ghost use Rattle.std.specs.Prelude.{◌≡◌, ℕ, ℤ, pos, ◌^◌, ◌<◌, Bool, IsTrue, get_or, slice_get};
+ghost use Rattle.std.specs.Prelude.{◌≡◌, ℕ, ℤ, ◌<◌, slice_get};
 ghost use Rattle.gd_rules.specs.Words.{words, words_fit, words_size, words_rank};
 ghost use Rattle.gd_rules.proofs.Words.{words_lawful};
 ghost use Rattle.gd_rules.proofs.Bounds.{words_bounded, words_ranked};

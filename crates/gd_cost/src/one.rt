@@ -1,4 +1,4 @@
-ghost use Rattle.std.specs.Prelude.{◌≡◌, ℕ, ℤ, pos, ◌^◌, Bool, IsTrue};
+ghost use Rattle.std.specs.Prelude.{◌≡◌, ℤ};
 ghost use Rattle.gd_rules.specs.Words.{whole, word_fits, word_size, word_rank};
 ghost use Rattle.gd_rules.proofs.Words.{whole_lawful};
 ghost use Rattle.gd_rules.proofs.Bounds.{whole_bounded, whole_ranked};

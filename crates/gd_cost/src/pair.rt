@@ -1,4 +1,4 @@
-ghost use Rattle.std.specs.Prelude.{◌≡◌, ℕ, ℤ, pos, ◌^◌, Bool, IsTrue};
+ghost use Rattle.std.specs.Prelude.{◌≡◌};
 ghost use Rattle.gd_rules.specs.Words.{both, both_fit, both_size, both_rank};
 ghost use Rattle.gd_rules.proofs.Words.{both_lawful};
 ghost use Rattle.gd_rules.proofs.Bounds.{both_bounded, both_ranked};

@@ -1,17 +1,13 @@
 -- How far amounts are from their bounds.
-use Rattle.std.proofs.Common.{◌≡◌, ◌⊎◌, ℕ, zero, suc, ◌+◌, ◌<◌, ◌≤◌, ◌^◌, List, length, arith, refl, sym, ◌∙◌, ap, subst, inl, inr, true, false, cond, to_z, of_z}
-use Rattle.std.specs.Prelude.{ℤ, pos, negsuc, neg_ℤ, ◌-ℤ◌, ◌≤ℤ◌, ◌<ℤ◌, FitsSigned}
+use Rattle.std.proofs.Common.{◌≡◌, ◌⊎◌, ℕ, zero, suc, ◌+◌, ◌<◌, ◌≤◌, ◌^◌, List, length, arith, refl, sym, subst, inl, inr, cond, to_z, of_z}
+use Rattle.std.specs.Prelude.{ℤ, pos, negsuc, neg_ℤ, ◌-ℤ◌, ◌≤ℤ◌, ◌<ℤ◌}
 use Rattle.std.specs.Int.{w64}
 use borrow.Author.Differences.{ints}
-use Rattle.std.proofs.lemmas.Bool.{cases_lt}
-use Rattle.std.proofs.lemmas.Int.{to_z-of_z}
-use Rattle.std.proofs.lemmas.List.{get_or_past}
-use Rattle.gd_network.specs.Arcs.{Net, arc_at, lower_at, upper_at}
+use Rattle.gd_network.specs.Arcs.{Net, lower_at, upper_at}
 use Rattle.gd_network.specs.Begun.{AreSound, IsFirst}
 use Rattle.gd_network.specs.Flow.{flow_at, IsCirculation, IsWithin}
-use Rattle.gd_network.specs.declared.arcs.Arc.{Arc}
 use Rattle.gd_walks.specs.declared.Step.{Step}
-use Rattle.gd_walks.specs.Steps.{above_none, amiss, room, IsNearer, Mends}
+use Rattle.gd_walks.specs.Steps.{above_none, amiss, amiss_at, room, IsNearer, Mends}
 use Rattle.gd_flow.specs.Kept.{IsKept, Holds}
 
 pub above_least : (z : ℤ) (m : ℕ) → above_none z ≤ m → z ≤ℤ pos m
@@ -23,7 +19,7 @@ above_most (pos a) m h = omega (arith, ints)
 above_most (negsuc a) m h = omega arith
 
 -- an amount is as far below its lower bound, or above its upper one, as it is amiss
-pub reaches : (l h f : ℤ) (m : ℕ) → amiss l h f ≤ m → ((l -ℤ f) ≤ℤ pos m) × ((f -ℤ h) ≤ℤ pos m)
+reaches : (l h f : ℤ) (m : ℕ) → amiss l h f ≤ m → ((l -ℤ f) ≤ℤ pos m) × ((f -ℤ h) ≤ℤ pos m)
 reaches l h f m k = (above_least (l -ℤ f) m (omega arith), above_least (f -ℤ h) m (omega arith))
 
 -- what is within its bounds is not amiss
@@ -43,26 +39,6 @@ still_holds n old new a h nearer held =
     let now : amiss (lower_at n a) (upper_at n a) (flow_at new a) ≤ amiss (lower_at n a) (upper_at n a) (flow_at old a) = nearer a h in
     within_reach (lower_at n a) (upper_at n a) (flow_at new a) (reaches (lower_at n a) (upper_at n a) (flow_at new a) 0 (omega (arith, was, now)))
 
-far_fits : (l h f : ℤ) → pos 0 ≤ℤ l → l ≤ℤ h → h ≤ℤ pos 1000000000 → ((l -ℤ f) ≤ℤ pos (2 ^ 62)) × ((f -ℤ h) ≤ℤ pos (2 ^ 62)) → FitsSigned w64 f
-far_fits l h f p q r k = let a : (l -ℤ f) ≤ℤ pos (2 ^ 62) = k.0 in let b : (f -ℤ h) ≤ℤ pos (2 ^ 62) = k.1 in grind (arith, ints)
-
-nothing_fits : FitsSigned w64 (pos 0)
-nothing_fits = grind (arith, ints)
-
--- each amount is a number of the machine
-pub fits_kept : (nodes : ℕ) (n : Net) (flow : List ℤ) → AreSound nodes n → IsKept n flow → (a : ℕ) → FitsSigned w64 (flow_at flow a)
-fits_kept nodes n flow sound kept a = elim (cases_lt a (length n)) [
-  | inl h ↦ far_fits (lower_at n a) (upper_at n a) (flow_at flow a) (sound.lower a h) (sound.bounds a h) (sound.upper a h) (reaches (lower_at n a) (upper_at n a) (flow_at flow a) (2 ^ 62) (kept.near a h))
-  | inr h ↦ subst (FitsSigned w64) (sym (get_or_past flow a (pos 0) (let e : length flow ≡ length n = kept.size in omega arith))) nothing_fits
-]
-
--- and so are its distances from both bounds
-far_rooms : (l h f : ℤ) → pos 0 ≤ℤ l → l ≤ℤ h → h ≤ℤ pos 1000000000 → ((l -ℤ f) ≤ℤ pos (2 ^ 62)) × ((f -ℤ h) ≤ℤ pos (2 ^ 62)) → FitsSigned w64 (f -ℤ l) × FitsSigned w64 (h -ℤ f)
-far_rooms l h f p q r k = let a : (l -ℤ f) ≤ℤ pos (2 ^ 62) = k.0 in let b : (f -ℤ h) ≤ℤ pos (2 ^ 62) = k.1 in (grind (arith, ints), grind (arith, ints))
-
-pub rooms_fit : (nodes : ℕ) (n : Net) (flow : List ℤ) → AreSound nodes n → IsKept n flow → (a : ℕ) → a < length n → FitsSigned w64 (flow_at flow a -ℤ lower_at n a) × FitsSigned w64 (upper_at n a -ℤ flow_at flow a)
-rooms_fit nodes n flow sound kept a h = far_rooms (lower_at n a) (upper_at n a) (flow_at flow a) (sound.lower a h) (sound.bounds a h) (sound.upper a h) (reaches (lower_at n a) (upper_at n a) (flow_at flow a) (2 ^ 62) (kept.near a h))
-
 pub above_cases : (z : ℤ) → (above_none z ≡ 0) ⊎ (pos 0 <ℤ z)
 above_cases (pos zero) = inl refl
 above_cases (pos (suc n)) = inr (omega (arith, ints))
@@ -80,45 +56,23 @@ first_near l h f p q r low high =
 -- the flow to begin with
 pub first_kept : (nodes : ℕ) (n : Net) (flow : List ℤ) → AreSound nodes n → IsFirst n flow → IsCirculation n flow → IsKept n flow
 first_kept nodes n flow sound first balances = record {
-  size = first.size;
+  near = record {
+    size = first.size;
+    near = λ a h. first_near (lower_at n a) (upper_at n a) (flow_at flow a) (sound.lower a h) (sound.bounds a h) (sound.upper a h) (first.small a h).low (first.small a h).high;
+  };
   balances = balances;
-  near = λ a h. first_near (lower_at n a) (upper_at n a) (flow_at flow a) (sound.lower a h) (sound.bounds a h) (sound.upper a h) (first.small a h).low (first.small a h).high;
 }
 
 -- a flow that comes nearer is kept
 pub still_kept : (n : Net) (old new : List ℤ) → length new ≡ length n → IsCirculation n new → IsNearer n old new → IsKept n old → IsKept n new
 still_kept n old new size balances nearer kept = record {
-  size = size;
+  near = record { size = size; near = λ a h. let was = kept.near.near a h in let now = nearer a h in omega (arith, was, now) };
   balances = balances;
-  near = λ a h. let was = kept.near a h in let now = nearer a h in omega (arith, was, now);
 }
 
 -- all arcs hold
 pub all_within : (n : Net) (flow : List ℤ) → ((a : ℕ) → a < length n → Holds n flow a) → IsWithin n flow
 all_within n flow held = record { above = λ a h. (held a h).0; below = λ a h. (held a h).1 }
-
-low_fits : (l h : ℤ) → pos 0 ≤ℤ l → l ≤ℤ h → h ≤ℤ pos 1000000000 → FitsSigned w64 l × FitsSigned w64 h
-low_fits l h p q r = (grind (arith, ints), grind (arith, ints))
-
--- what the code reads and takes from another is the room
-module _ (nodes : ℕ) (n : Net) (flow : List ℤ) (step : Step) (arc : Arc) (sound : AreSound nodes n) (kept : IsKept n flow) (within : step.arc < length n) (is : arc ≡ arc_at n step.arc) where
-  pub room_back : step.back ≡ true → to_z w64 (of_z w64 (to_z w64 (of_z w64 (flow_at flow step.arc)) -ℤ to_z w64 (of_z w64 arc.lower))) ≡ room n flow step
-  room_back e =
-      let bound = low_fits (lower_at n step.arc) (upper_at n step.arc) (sound.lower step.arc within) (sound.bounds step.arc within) (sound.upper step.arc within) in
-      subst (λ (x : Arc). to_z w64 (of_z w64 (to_z w64 (of_z w64 (flow_at flow step.arc)) -ℤ to_z w64 (of_z w64 x.lower))) ≡ room n flow step) (sym is)
-      (subst (λ b. to_z w64 (of_z w64 (to_z w64 (of_z w64 (flow_at flow step.arc)) -ℤ to_z w64 (of_z w64 (lower_at n step.arc)))) ≡ cond b (flow_at flow step.arc -ℤ lower_at n step.arc) (upper_at n step.arc -ℤ flow_at flow step.arc)) (sym e)
-      (ap (λ z. to_z w64 (of_z w64 (z -ℤ to_z w64 (of_z w64 (lower_at n step.arc))))) (to_z-of_z w64 (flow_at flow step.arc) (fits_kept nodes n flow sound kept step.arc))
-      ∙ ap (λ z. to_z w64 (of_z w64 (flow_at flow step.arc -ℤ z))) (to_z-of_z w64 (lower_at n step.arc) bound.0)
-      ∙ to_z-of_z w64 (flow_at flow step.arc -ℤ lower_at n step.arc) (rooms_fit nodes n flow sound kept step.arc within).0))
-
-  pub room_along : step.back ≡ false → to_z w64 (of_z w64 (to_z w64 (of_z w64 arc.upper) -ℤ to_z w64 (of_z w64 (flow_at flow step.arc)))) ≡ room n flow step
-  room_along e =
-      let bound = low_fits (lower_at n step.arc) (upper_at n step.arc) (sound.lower step.arc within) (sound.bounds step.arc within) (sound.upper step.arc within) in
-      subst (λ (x : Arc). to_z w64 (of_z w64 (to_z w64 (of_z w64 x.upper) -ℤ to_z w64 (of_z w64 (flow_at flow step.arc)))) ≡ room n flow step) (sym is)
-      (subst (λ b. to_z w64 (of_z w64 (to_z w64 (of_z w64 (upper_at n step.arc)) -ℤ to_z w64 (of_z w64 (flow_at flow step.arc)))) ≡ cond b (flow_at flow step.arc -ℤ lower_at n step.arc) (upper_at n step.arc -ℤ flow_at flow step.arc)) (sym e)
-      (ap (λ z. to_z w64 (of_z w64 (z -ℤ to_z w64 (of_z w64 (flow_at flow step.arc))))) (to_z-of_z w64 (upper_at n step.arc) bound.1)
-      ∙ ap (λ z. to_z w64 (of_z w64 (upper_at n step.arc -ℤ z))) (to_z-of_z w64 (flow_at flow step.arc) (fits_kept nodes n flow sound kept step.arc))
-      ∙ to_z-of_z w64 (upper_at n step.arc -ℤ flow_at flow step.arc) (rooms_fit nodes n flow sound kept step.arc within).1))
 
 -- a step that mends its arc has room
 pub mends_room : (nodes : ℕ) (n : Net) (flow : List ℤ) (step : Step) → AreSound nodes n → step.arc < length n → Mends n flow step → pos 0 <ℤ room n flow step
@@ -130,3 +84,19 @@ mends_room nodes n flow step sound h (inr m) = subst (λ b. pos 0 <ℤ cond b (f
   where
     above_room : (l h f : ℤ) → l ≤ℤ h → h <ℤ f → pos 0 <ℤ (f -ℤ l)
     above_room l h f p q = omega (arith, ints)
+
+-- and its arc is out of its bounds
+above_some : (z : ℤ) → pos 0 <ℤ z → 1 ≤ above_none z
+above_some (pos a) h = omega (arith, ints)
+above_some (negsuc a) h = absurd (omega (arith, ints))
+
+mends_amiss : (n : Net) (flow : List ℤ) (step : Step) → Mends n flow step → 1 ≤ amiss_at n flow step.arc
+mends_amiss n flow step (inl m) = let some = above_some (lower_at n step.arc -ℤ flow_at flow step.arc) (let less = m.1 in omega (arith, ints, less)) in omega (arith, some)
+mends_amiss n flow step (inr m) = let some = above_some (flow_at flow step.arc -ℤ upper_at n step.arc) (let less = m.1 in omega (arith, ints, less)) in omega (arith, some)
+
+amount_some : (z : ℤ) (m : ℕ) → z ≡ pos m → 1 ≤ m → m ≤ 2 ^ 62 → pos 0 <ℤ to_z w64 (of_z w64 z)
+amount_some z m is some few = omega (arith, ints)
+
+-- the amount by which it is so, as the code hands it on
+pub fault_some : (n : Net) (flow : List ℤ) (step : Step) (a : ℕ) (z : ℤ) → IsKept n flow → a < length n → step.arc ≡ a → Mends n flow step → z ≡ pos (amiss_at n flow a) → pos 0 <ℤ to_z w64 (of_z w64 z)
+fault_some n flow step a z kept within same mends is = amount_some z (amiss_at n flow a) is (subst (λ b. 1 ≤ amiss_at n flow b) same (mends_amiss n flow step mends)) (kept.near.near a within)

@@ -1,7 +1,6 @@
 //! Feasible flows.
 
 ghost use Rattle.std.specs.Prelude.{◌≡◌, length};
-ghost use Rattle.gd_network.specs.Begun.{Laid};
 ghost use Rattle.gd_network.specs.Arcs.{IsNetwork};
 ghost use Rattle.gd_network.specs.Flow.{IsCirculation, IsWithin};
 
@@ -22,11 +21,11 @@ impl<'q> Model for Feasible<'q> {
 
     ghost Value = { Flowing };
 
-    ghost use Rattle.gd_flow.specs.Inside.{flowing_of, IsFeasible};
+    ghost use Rattle.gd_flow.specs.Inside.{flowing_of, flows};
 
     ghost view = { flowing_of };
 
-    ghost invariant = { IsFeasible };
+    ghost invariant = { flows };
 }
 
 impl<'q> Feasible<'q> {

@@ -2,10 +2,10 @@
 #![tactic(auto)]
 
 mod cut;
+mod faults;
 mod feasible;
 mod mending;
 mod search;
-mod steps;
 
 pub use feasible::Feasible;
 pub use mending::{Repaired, repair};

@@ -1,6 +1,6 @@
 //! The repair of a network's first flow.
 
-ghost use Rattle.std.specs.Prelude.{◌≡◌, ◌<◌, length, IfOk, OnOk, MatchOption};
+ghost use Rattle.std.specs.Prelude.{◌<◌, length, IfOk, OnOk, MatchOption};
 ghost use Rattle.gd_certificate.specs.Cutting.{IsShaped, Cuts};
 ghost use Rattle.gd_network.specs.Flow.{IsWithin};
 ghost use Rattle.gd_walks.specs.Steps.{IsNearer, Mends};
@@ -10,11 +10,11 @@ ghost use Rattle.gd_flow.specs.Ways.{IsWay};
 
 use crate::Feasible;
 use crate::cut::cut_of;
+use crate::faults::fault_of;
 use crate::search::Search;
-use crate::steps::{fault_of, head, least_room, tail};
 use gd_certificate::Cut;
 use gd_network::{Flow, Network, reached_cut};
-use gd_walks::{Step, push};
+use gd_walks::{Step, least_room, near_fits, push};
 use std::alloc::{AllocError, Global};
 
 /// What a repair comes to.
@@ -49,8 +49,8 @@ fn closing(
 {
     network.known();
     reached_cut();
-    let to = tail(network, step);
-    let search = Search::run(alloc, network, flow, head(network, step), to)?;
+    let to = step.tail(network);
+    let search = Search::run(alloc, network, flow, step.head(network), to)?;
     match search.place(to) {
         Some(at) => Ok(Way::Walk(search.walk_to(alloc, network, flow, at, step)?)),
         None => Ok(Way::Cut(cut_of(alloc, network, &search.marks)?)),
@@ -77,6 +77,7 @@ fn mend(
         match closing(alloc, network, flow, fault.step)? {
             Way::Walk(walk) => {
                 let amount = least_room(network, flow, &walk, fault.amount);
+                near_fits(network, flow);
                 push(network, flow, &walk, amount);
             }
             Way::Cut(cut) => return Ok(Some(cut)),

@@ -1,11 +1,10 @@
 //! The search for a walk from one node to another by steps that have room, breadth first.
 
-ghost use Rattle.std.specs.Prelude.{◌≡◌, ℕ, ◌+◌, ◌<◌, ◌∷◌, [], ◌++◌, pos, ◌<ℤ◌, length, get_or, slice_set, true, false, replicate, ◌≢◌, IfOk, OnOk, MatchOption};
+ghost use Rattle.std.specs.Prelude.{◌≡◌, ℕ, ◌+◌, ◌<◌, pos, ◌<ℤ◌, length, get_or, slice_set, true, false, replicate, ◌≢◌, IfOk, OnOk, MatchOption};
 ghost use Rattle.gd_walks.specs.Steps.{tail_of, head_of, room};
 ghost use Rattle.gd_flow.specs.Kept.{IsKept};
 ghost use Rattle.gd_flow.specs.Search.{find_at, IsSearch, IsTried, AreTried, Grows, Closes};
 
-use crate::steps::{head, room, tail};
 use gd_network::Network;
 use gd_walks::Step;
 use std::alloc::{AllocError, Global};
@@ -66,11 +65,11 @@ impl Search {
         ensures grows { OnOk result (Grows self.old self.new) }
         ensures tried { OnOk result (IsTried network.now.arcs flow.now self.new.marks.items (find_at self.old at).node step) }
     {
-        if tail(network, step) != self.finds[at].node || room(network, flow, step) <= 0 {
+        if step.tail(network) != self.finds[at].node || step.room(network, flow) <= 0 {
             return Ok(());
         }
         network.known();
-        let node = head(network, step);
+        let node = step.head(network);
         if self.marks[node] {
             return Ok(());
         }

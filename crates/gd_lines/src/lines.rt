@@ -1,8 +1,8 @@
 ghost use Rattle.std.specs.Prelude.{◌≡◌, ℕ, ◌+◌, ◌-◌, ◌*◌, ◌==◌, ◌≢◌, nat_le, ◌<◌, ◌≤◌, ◌⊎◌, List, [], ◌∷◌, ◌++◌, length, get_or, map, filter, unwrap_or, take, All, IfOk, IfErr, OnOk, OnErr, Ok, Err, Some, if◌then◌else◌};
 ghost use Rattle.std.specs.Vec.{vec_len, vec_capacity};
-ghost use Rattle.indexmap.specs.IndexSet.{IsUnique, insert_key, spare as key_spare};
+ghost use Rattle.indexmap.specs.IndexSet.{IsUnique, spare as key_spare};
 ghost use Rattle.indexmap.specs.IndexMap.{get, spare as sum_spare};
-ghost use Rattle.std.specs.List.{list_any, position_or_len};
+ghost use Rattle.std.specs.List.{position_or_len};
 ghost use Rattle.gd_rules.specs.Lines as rules;
 ghost use Rattle.gd_lines.specs.Kept.{no_state, blank};
 ghost use Rattle.gd_lines.specs.Numbered.{numbered, nomination};

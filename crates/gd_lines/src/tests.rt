@@ -1,6 +1,6 @@
 //! Two lines of one contract and one of another, for three cycles.
 
-ghost use Rattle.std.specs.Prelude.{◌≡◌, ◌≤◌, ◌<◌, length, All, IfOk};
+ghost use Rattle.std.specs.Prelude.{◌≡◌, ◌≤◌, ◌<◌, All, IfOk};
 ghost use Rattle.gd_rules.specs.Lines as rules;
 
 use super::*;

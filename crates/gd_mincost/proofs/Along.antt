@@ -1,23 +1,17 @@
 -- Walks of links, as walks of steps.
-use Rattle.std.proofs.Common.{◌≡◌, ℕ, zero, suc, ◌-◌, ◌^◌, ◌<◌, List, [], ◌∷◌, ◌++◌, length, map, get_or, cond, to_z, of_z, to_z-of_z, refl, sym, ap, ◌∙◌, subst, arith, inl, inr}
-use Rattle.std.specs.Prelude.{ℤ, pos, ◌≤ℤ◌, ◌<ℤ◌, fold, FitsSigned}
-use Rattle.std.specs.Int.{int_min, w64}
-use Rattle.std.proofs.lemmas.Bool.{cases_lt}
-use Rattle.std.proofs.lemmas.Int.{clamps, fold-int_min_bounds}
-use Rattle.std.proofs.lemmas.List.{reverse-append, length-reverse, length-map, get_or-reverse, get_or-map, get_or_past}
-use lib.Signed.{mag}
+use Rattle.std.proofs.Common.{◌≡◌, ℕ, zero, suc, ◌-◌, ◌<◌, List, [], ◌∷◌, ◌++◌, length, map, get_or, cond, refl, sym, ap, ◌∙◌, subst, arith}
+use Rattle.std.specs.Prelude.{ℤ, pos, ◌≤ℤ◌, ◌<ℤ◌}
+use Rattle.std.proofs.lemmas.List.{reverse-append, length-reverse, length-map, get_or-reverse, get_or-map}
 use borrow.Author.Differences.{ints}
 use Rattle.gd_rules.specs.Scale.{Scale, IsLawful, IsAbove}
 use Rattle.gd_network.specs.Arcs.{Net, from_at, to_at}
-use Rattle.gd_network.specs.Begun.{AreSound}
-use Rattle.gd_network.specs.Flow.{flow_at}
 use Rattle.gd_walks.specs.declared.Step.{Step}
 use Rattle.gd_walks.specs.Steps.{tail_of, head_of, room, Follows, AreSteps, Once, HasRooms}
 use Rattle.gd_labels.specs.Links.{node_at, Trail, gain_of, EndsOnce}
 use Rattle.gd_labels.specs.Found.{IsGaining}
 use Rattle.gd_mincost.specs.Gains.{gained}
-use Rattle.gd_mincost.specs.Residual.{IsFeasible, AreLinked, step_at}
-use Rattle.gd_mincost.specs.Closed.{steps_along, least_room}
+use Rattle.gd_mincost.specs.Residual.{AreLinked, step_at}
+use Rattle.gd_mincost.specs.Closed.{steps_along}
 use Rattle.gd_mincost.proofs.Value.{walk_gain, gain_push}
 
 -- the last link's step stands last
@@ -92,43 +86,9 @@ module _ {V : Type 0} (s : Scale V) (n : Net) (flow : List ℤ) (gains : List V)
         ends (length walk - 1 - k) (length walk - 1 - j) (omega (arith, before, h, e)) (omega (arith, before, h, e))
         ((linked.each q (link_in k h)).leads ∙ sym heads ∙ sym (linked.each p (link_in j j_in)).leads)
 
--- ---- the least room
-
-pub has_rooms : (n : Net) (flow : List ℤ) (walk : List Step) → HasRooms n flow walk (least_room n flow walk)
-has_rooms n flow walk k d h =
-    let size : length (map (room n flow) walk) ≡ length walk = length-map walk (room n flow) in
-    subst (λ z. least_room n flow walk ≤ℤ z) (get_or-map (room n flow) walk k d (pos 0) h)
-    ((fold-int_min_bounds (pos (2 ^ 62)) (map (room n flow) walk) (least_room n flow walk) refl).1 k (pos 0) (omega (arith, size, h)))
-
-min_some : (x y : ℤ) → pos 1 ≤ℤ x → pos 0 <ℤ y → pos 1 ≤ℤ int_min x y
-min_some x y h k = omega (arith, ints, clamps)
-
-some_from : (n : Net) (flow : List ℤ) (walk : List Step) (x : ℤ) → pos 1 ≤ℤ x → ((k : ℕ) (d : Step) → k < length walk → pos 0 <ℤ room n flow (get_or walk k d)) → pos 1 ≤ℤ fold int_min x (map (room n flow) walk)
-some_from n flow [] x h rooms = h
-some_from n flow (step ∷ walk) x h rooms = some_from n flow walk (int_min x (room n flow step)) (min_some x (room n flow step) h (rooms 0 step (omega arith))) (λ k d g. rooms (suc k) d (omega arith))
-
-pub some_room : (n : Net) (flow : List ℤ) (walk : List Step) → ((k : ℕ) (d : Step) → k < length walk → pos 0 <ℤ room n flow (get_or walk k d)) → pos 1 ≤ℤ least_room n flow walk
-some_room n flow walk rooms = some_from n flow walk (pos (2 ^ 62)) (omega (arith, ints)) rooms
-
-amount_fits : (z : ℤ) → pos 0 ≤ℤ z → z ≤ℤ pos 1000000000 → FitsSigned w64 z
-amount_fits z low high = omega (arith, ints)
-
-nothing_fits : FitsSigned w64 (pos 0)
-nothing_fits = amount_fits (pos 0) (omega (arith, ints)) (omega (arith, ints))
-
-pub flow_fits : (nodes : ℕ) (n : Net) (flow : List ℤ) → AreSound nodes n → IsFeasible n flow → (a : ℕ) → FitsSigned w64 (flow_at flow a)
-flow_fits nodes n flow sound f a = elim (cases_lt a (length n)) [
-  | inl h ↦
-      amount_fits (flow_at flow a) (let p = sound.lower a h in let q = f.bounds.above a h in omega (arith, ints)) (let p = sound.upper a h in let q = f.bounds.below a h in omega (arith, ints))
-  | inr h ↦ subst (FitsSigned w64) (sym (get_or_past flow a (pos 0) (let e = f.size in omega (arith, e, h)))) nothing_fits
-]
-
--- what the code's copies of a walk and an amount are
+-- what the code's copy of a walk is
 pub along_is : (steps held : List Step) (walk : List ℕ) (got along : List Step) → held ≡ steps → got ≡ steps_along held walk → along ≡ got → along ≡ steps_along steps walk
 along_is steps held walk got along a b c = c ∙ (b ∙ ap (λ xs. steps_along xs walk) a)
-
-pub amount_is : (n : Net) (flow : List ℤ) (got first along : List Step) (z : ℤ) → mag z < 2 ^ 63 → z ≡ least_room n flow first → first ≡ got → along ≡ got → to_z w64 (of_z w64 z) ≡ least_room n flow along
-amount_is n flow got first along z small e a b = (let fits : FitsSigned w64 z = record { sfits = small } in to_z-of_z fits) ∙ (e ∙ ap (least_room n flow) (a ∙ sym b))
 
 -- What a push asks of a closed walk and an amount.
 pub record CanPush (n : Net) (flow : List ℤ) (walk : List Step) (amount : ℤ) : Type 0 where
@@ -138,18 +98,26 @@ pub record CanPush (n : Net) (flow : List ℤ) (walk : List Step) (amount : ℤ)
   pub some : pos 1 ≤ℤ amount
   pub low : pos 0 ≤ℤ amount
 
-pub can_push : {V : Type 0} (s : Scale V) (n : Net) (flow : List ℤ) (gains : List V) (from to : List ℕ) (gain : List V) (steps : List Step) → AreLinked s n flow gains from to gain steps → (walk : List ℕ) (g : IsGaining s from to gain walk) (along : List Step) (amount : ℤ)
-    → along ≡ steps_along steps walk → amount ≡ least_room n flow along → CanPush n flow along amount
-can_push s n flow gains from to gain steps linked walk g along amount e f =
+from_one : (z : ℤ) → pos 0 <ℤ z → pos 1 ≤ℤ z
+from_one z h = omega (arith, ints)
+
+not_below : (z : ℤ) → pos 0 <ℤ z → pos 0 ≤ℤ z
+not_below z h = omega (arith, ints)
+
+-- the amount is the least room, told of the same walk
+pub can_push : {V : Type 0} (s : Scale V) (n : Net) (flow : List ℤ) (gains : List V) (from to : List ℕ) (gain : List V) (steps : List Step) → AreLinked s n flow gains from to gain steps → (walk : List ℕ) (g : IsGaining s from to gain walk) (along told : List Step) (amount z : ℤ)
+    → along ≡ steps_along steps walk → along ≡ told → amount ≡ z → HasRooms n flow told z → (HasRooms n flow told (pos 1) → pos 0 <ℤ z) → CanPush n flow along amount
+can_push s n flow gains from to gain steps linked walk g along told amount z e same read rooms some =
     let all : (k : ℕ) (d : Step) → k < length along → pos 0 <ℤ room n flow (get_or along k d) =
     subst (λ w. (k : ℕ) (d : Step) → k < length w → pos 0 <ℤ room n flow (get_or w k d)) (sym e) (have_room s n flow gains from to gain steps linked g.node g.node walk g.closed) in
-    let above : pos 1 ≤ℤ amount = subst (λ z. pos 1 ≤ℤ z) (sym f) (some_room n flow along all) in
+    let ones : HasRooms n flow along (pos 1) = λ k d h. from_one (room n flow (get_or along k d)) (all k d h) in
+    let above : pos 0 <ℤ amount = subst (λ y. pos 0 <ℤ y) (sym read) (some (subst (λ w. HasRooms n flow w (pos 1)) same ones)) in
     record {
       steps = subst (AreSteps n) (sym e) (are_steps s n flow gains from to gain steps linked g.node g.node walk g.closed);
-      rooms = subst (HasRooms n flow along) (sym f) (has_rooms n flow along);
+      rooms = subst (λ y. HasRooms n flow along y) (sym read) (subst (λ w. HasRooms n flow w z) (sym same) rooms);
       once = subst Once (sym e) (once s n flow gains from to gain steps linked g.node g.node walk g.closed g.once);
-      some = above;
-      low = omega (arith, ints, above);
+      some = from_one amount above;
+      low = not_below amount above;
     }
 
 pub along_follows : {V : Type 0} (s : Scale V) (n : Net) (flow : List ℤ) (gains : List V) (from to : List ℕ) (gain : List V) (steps : List Step) → AreLinked s n flow gains from to gain steps → (walk : List ℕ) (g : IsGaining s from to gain walk) (along : List Step)

@@ -71,19 +71,24 @@ holds_last steps step = (length steps, let p = length_push steps step in omega (
 of_arc : (step : Step) (a : ℕ) (b : Bool) → step.arc ≡ a → step.back ≡ b → record { arc = a; back = b } ≡ step
 of_arc step a b e f = sym (ap (λ x. record { arc = x; back = step.back }) e ∙ ap (λ x. record { arc = a; back = x }) f)
 
--- One arc more, both ways.
-pub whole_more : (n : Net) (flow : List ℤ) (a : ℕ) (old mid new : List Step) → IsWhole n flow a old
-    → Keeps old mid → (pos 0 <ℤ room n flow (record { arc = a; back = false }) → Holds mid (record { arc = a; back = false }))
-    → Keeps mid new → (pos 0 <ℤ room n flow (record { arc = a; back = true }) → Holds new (record { arc = a; back = true }))
-    → IsWhole n flow (a + 1) new
-whole_more n flow a old mid new h kept along kept_then back step below has = elim (cases_lt step.arc a) [
-  | inl g ↦ kept_then step (kept step (h step g has))
-  | inr g ↦ here step.back refl (omega arith)
-]
+-- Both steps of an arc.
+pub both_ways : (n : Net) (flow : List ℤ) (a : ℕ) (mid new : List Step)
+    → (pos 0 <ℤ room n flow (record { arc = a; back = false }) → Holds mid (record { arc = a; back = false })) → Keeps mid new
+    → (pos 0 <ℤ room n flow (record { arc = a; back = true }) → Holds new (record { arc = a; back = true }))
+    → (step : Step) → step.arc ≡ a → pos 0 <ℤ room n flow step → Holds new step
+both_ways n flow a mid new along kept back step here has = by_way step.back refl
   where
-    here : (b : Bool) → step.back ≡ b → step.arc ≡ a → Holds new step
-    here false e f = let same = of_arc step a false f e in subst (Holds new) same (kept_then (record { arc = a; back = false }) (along (subst (λ t. pos 0 <ℤ room n flow t) (sym same) has)))
-    here true e f = let same = of_arc step a true f e in subst (Holds new) same (back (subst (λ t. pos 0 <ℤ room n flow t) (sym same) has))
+    by_way : (b : Bool) → step.back ≡ b → Holds new step
+    by_way false e = let same = of_arc step a false here e in subst (Holds new) same (kept (record { arc = a; back = false }) (along (subst (λ t. pos 0 <ℤ room n flow t) (sym same) has)))
+    by_way true e = let same = of_arc step a true here e in subst (Holds new) same (back (subst (λ t. pos 0 <ℤ room n flow t) (sym same) has))
+
+-- One arc more.
+pub whole_more : (n : Net) (flow : List ℤ) (a : ℕ) (old new : List Step) → IsWhole n flow a old → Keeps old new
+    → ((step : Step) → step.arc ≡ a → pos 0 <ℤ room n flow step → Holds new step) → IsWhole n flow (a + 1) new
+whole_more n flow a old new h kept here step below has = elim (cases_lt step.arc a) [
+  | inl g ↦ kept step (h step g has)
+  | inr g ↦ here step (omega arith) has
+]
 
 module _ {V : Type 0} (s : Scale V) (within : ℤ → V → Bool) (b : IsBounded s within) where
   joins : (nodes : ℕ) (n : Net) → AreSound nodes n → (step : Step) → step.arc < length n → (tail_of n step < nodes) × (head_of n step < nodes)

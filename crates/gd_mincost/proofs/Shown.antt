@@ -9,7 +9,8 @@ use Rattle.gd_network.specs.Arcs.{Net, from_at, to_at}
 use Rattle.gd_walks.specs.declared.Step.{Step}
 use Rattle.gd_labels.specs.Found.{AreLabels}
 use Rattle.gd_mincost.specs.Gains.{IsGainAt, gain_at}
-use Rattle.gd_mincost.specs.Residual.{IsFeasible, AreLinked, IsWhole}
+use Rattle.gd_flow.specs.Feasible.{IsFeasible}
+use Rattle.gd_mincost.specs.Residual.{AreLinked, IsWhole}
 use Rattle.gd_mincost.specs.Closed.{AreShown}
 use Rattle.gd_mincost.specs.Settled.{IsSettled, potential}
 use Rattle.gd_mincost.proofs.Links.{all_still}

@@ -1,11 +1,9 @@
 -- Walks of links as steps, and labels that show that none gains.
-use Rattle.std.specs.Prelude.{◌≡◌, ℕ, ◌^◌, ◌<◌, ℤ, pos, Bool, List, length, map, reverse, fold, IsTrue}
-use Rattle.std.specs.Int.{int_min}
+use Rattle.std.specs.Prelude.{◌≡◌, ℕ, ◌^◌, ◌<◌, ℤ, pos, Bool, List, length, map, reverse, IsTrue}
 use Rattle.gd_rules.specs.Scale.{Scale}
 use Rattle.gd_network.specs.Arcs.{Net}
 use Rattle.gd_network.specs.Potential.{IsStill}
 use Rattle.gd_walks.specs.declared.Step.{Step}
-use Rattle.gd_walks.specs.Steps.{room}
 use Rattle.gd_mincost.specs.Gains.{gain_at}
 use Rattle.gd_mincost.specs.Residual.{step_at}
 use Rattle.gd_mincost.specs.Settled.{potential}
@@ -13,10 +11,6 @@ use Rattle.gd_mincost.specs.Settled.{potential}
 -- The steps of links that are listed from the last to the first.
 abbrev pub steps_along : List Step → List ℕ → List Step
 steps_along steps walk = reverse (map (step_at steps) walk)
-
--- The least room of the steps, and at most 2^62.
-abbrev pub least_room : Net → List ℤ → List Step → ℤ
-least_room n flow walk = fold int_min (pos (2 ^ 62)) (map (room n flow) walk)
 
 -- There is a label for each node, at most 2^39 in size, and no step that has room gains.
 pub record AreShown {V : Type 0} (s : Scale V) (within : ℤ → V → Bool) (nodes : ℕ) (n : Net) (flow : List ℤ) (gains labels : List V) : Type 0 where

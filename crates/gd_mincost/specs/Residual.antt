@@ -2,18 +2,11 @@
 use Rattle.std.specs.Prelude.{◌≡◌, ℕ, ◌<◌, ℤ, pos, ◌<ℤ◌, false, List, length, map, get_or}
 use Rattle.gd_rules.specs.Scale.{Scale}
 use Rattle.gd_network.specs.Arcs.{Net}
-use Rattle.gd_network.specs.Flow.{IsCirculation, IsWithin}
 use Rattle.gd_walks.specs.declared.Step.{Step}
 use Rattle.gd_walks.specs.Steps.{tail_of, head_of, room}
 use Rattle.gd_labels.specs.Links.{node_at}
 use Rattle.gd_mincost.specs.Gains.{gained}
 use Rattle.gd_mincost.specs.declared.residual.Residual.{Residual}
-
--- An amount flows along each arc, it balances, and each lies within its arc's bounds.
-pub record IsFeasible (n : Net) (flow : List ℤ) : Type 0 where
-  pub size : length flow ≡ length n
-  pub balances : IsCirculation n flow
-  pub bounds : IsWithin n flow
 
 abbrev pub step_at : List Step → ℕ → Step
 step_at steps i = get_or steps i (record { arc = 0; back = false })

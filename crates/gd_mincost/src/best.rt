@@ -3,7 +3,7 @@
 ghost use Rattle.std.specs.Prelude.{◌≡◌, ◌+◌, length, map, IfOk, OnOk};
 ghost use Rattle.gd_mincost.specs.Settled.{IsSettled};
 ghost use Rattle.gd_mincost.specs.Gains.{AreGains};
-ghost use Rattle.gd_mincost.specs.Residual.{IsFeasible};
+ghost use Rattle.gd_flow.specs.Feasible.{IsFeasible};
 ghost use Rattle.gd_mincost.specs.Closed.{AreShown};
 
 use crate::gains::gains;
@@ -14,6 +14,7 @@ use gd_cost::{ByClass, Cost};
 use gd_flow::Feasible;
 use gd_labels::{Found, potentials};
 use gd_network::{Flow, Network};
+use gd_walks::within_is_near;
 use std::alloc::{AllocError, Global};
 use std::marker::Model;
 
@@ -77,6 +78,7 @@ fn rise<C: Cost>(
     network.known();
     let mut part = Part::first();
     loop {
+        within_is_near(network, flow);
         let residual = Residual::of(alloc, network, gains, flow, part)?;
         match potentials(alloc, &residual.links, network.node_count())? {
             Found::Closed(walk) => push_closed(alloc, network, &residual, gains, flow, &walk)?,

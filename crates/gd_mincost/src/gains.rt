@@ -1,6 +1,6 @@
 //! What the arcs of a network gain.
 
-ghost use Rattle.std.specs.Prelude.{◌≡◌, ℕ, ◌<◌, pos, length, map, IfOk, IsTrue};
+ghost use Rattle.std.specs.Prelude.{ℕ, ◌<◌, pos, length, map, IfOk, IsTrue};
 ghost use Rattle.gd_mincost.specs.Gains.{IsGainAt, AreGains, gain_at};
 
 use gd_cost::ByClass;

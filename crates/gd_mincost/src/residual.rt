@@ -1,8 +1,7 @@
 //! The links along which a flow can change.
 
 ghost use Rattle.std.specs.Prelude.{◌≡◌, ◌<◌, ◌++◌, ◌∷◌, [], pos, ◌≤ℤ◌, ◌<ℤ◌, length, map, IfOk, OnOk};
-ghost use Rattle.gd_network.specs.Flow.{IsWithin};
-ghost use Rattle.gd_walks.specs.Steps.{room};
+ghost use Rattle.gd_walks.specs.Steps.{room, IsNear};
 ghost use Rattle.gd_mincost.specs.Gains.{AreGains};
 ghost use Rattle.gd_mincost.specs.Part.{IsPart, IsLast};
 ghost use Rattle.gd_mincost.specs.Residual.{IsSound, IsWhole, Holds, Keeps};
@@ -21,23 +20,6 @@ pub(crate) struct Residual<C> {
     pub links: Links<C>,
     /// The step of each link.
     pub steps: Vec<Step>,
-}
-
-/// How much more a step can carry.
-pub(crate) fn room(network: &Network<'_>, flow: &[i64], step: Step) -> i64
-    requires arc { step.arc < length network.now.arcs }
-    requires size { length flow.now ≡ length network.now.arcs }
-    requires within { IsWithin network.now.arcs flow.now }
-    ensures { result ≡ room network.now.arcs flow.now step }
-{
-    network.known();
-    let arc = network.arc(step.arc);
-    let amount = flow[step.arc];
-    if step.back {
-        amount - arc.lower
-    } else {
-        arc.upper - amount
-    }
 }
 
 impl<C: Cost> Residual<C> {
@@ -83,15 +65,14 @@ impl<C: Cost> Residual<C> {
     ) -> Result<(), AllocError>
         requires arc { step.arc < length network.now.arcs }
         requires gains { AreGains C.scale C.within (length network.now.arcs) (map C.meaning gains.now) }
-        requires size { length flow.now ≡ length network.now.arcs }
-        requires within { IsWithin network.now.arcs flow.now }
+        requires near { IsNear network.now.arcs flow.now }
         requires least { pos 0 <ℤ least }
         requires sound { IsSound C.scale C.meaning network.now.arcs flow.now (map C.meaning gains.now) self.old }
         ensures sound { OnOk result (IsSound C.scale C.meaning network.now.arcs flow.now (map C.meaning gains.now) self.new) }
         ensures kept { OnOk result (Keeps self.old.steps.items self.new.steps.items) }
         ensures added { OnOk result (least ≤ℤ room network.now.arcs flow.now step → Holds self.new.steps.items step) }
     {
-        if room(network, flow, step) < least {
+        if step.room(network, flow) < least {
             return Ok(());
         }
         let arc = network.arc(step.arc);
@@ -103,8 +84,57 @@ impl<C: Cost> Residual<C> {
         }
     }
 
-    /// The links of a flow within its bounds, of the steps that take part: along each arc that can carry so much more, and
-    /// back along each that can carry so much less.
+    /// Adds the links of both steps of an arc, as far as they take part.
+    fn add_arc(
+        &mut self,
+        network: &Network<'_>,
+        gains: &[C],
+        flow: &[i64],
+        part: Part,
+        arc: usize,
+    ) -> Result<(), AllocError>
+        requires arc { arc < length network.now.arcs }
+        requires gains { AreGains C.scale C.within (length network.now.arcs) (map C.meaning gains.now) }
+        requires near { IsNear network.now.arcs flow.now }
+        requires part { IsPart part }
+        requires sound { IsSound C.scale C.meaning network.now.arcs flow.now (map C.meaning gains.now) self.old }
+        ensures sound { OnOk result (IsSound C.scale C.meaning network.now.arcs flow.now (map C.meaning gains.now) self.new) }
+        ensures kept { OnOk result (Keeps self.old.steps.items self.new.steps.items) }
+        ensures added { OnOk result (IsLast part → (step : Step) → step.arc ≡ arc → pos 0 <ℤ room network.now.arcs flow.now step → Holds self.new.steps.items step) }
+    {
+        let least = part.least_room(network, arc);
+        self.add(network, gains, flow, Step { arc, back: false }, least)?;
+        self.add(network, gains, flow, Step { arc, back: true }, least)?;
+        Ok(())
+    }
+
+    /// Adds the links of the elements' arcs, the last one first.
+    fn add_elements(
+        &mut self,
+        network: &Network<'_>,
+        gains: &[C],
+        flow: &[i64],
+        part: Part,
+    ) -> Result<(), AllocError>
+        requires gains { AreGains C.scale C.within (length network.now.arcs) (map C.meaning gains.now) }
+        requires near { IsNear network.now.arcs flow.now }
+        requires part { IsPart part }
+        requires sound { IsSound C.scale C.meaning network.now.arcs flow.now (map C.meaning gains.now) self.old }
+        ensures sound { OnOk result (IsSound C.scale C.meaning network.now.arcs flow.now (map C.meaning gains.now) self.new) }
+        ensures kept { OnOk result (Keeps self.old.steps.items self.new.steps.items) }
+    {
+        network.known();
+        for arc in (0..network.node_count() - 1).rev() {
+            self.add_arc(network, gains, flow, part, arc)?;
+        }
+        Ok(())
+    }
+
+    /// The links of a flow, of the steps that take part: along each arc that can carry so much more, and back along each
+    /// that can carry so much less.
+    ///
+    /// The elements' links come twice, from the first and at the end from the last: they are a tree, each with its node
+    /// behind an earlier one, so that one sweep carries a label from any node of it to any other.
     pub(crate) fn of(
         alloc: Global,
         network: &Network<'_>,
@@ -113,18 +143,16 @@ impl<C: Cost> Residual<C> {
         part: Part,
     ) -> Result<Residual<C>, AllocError>
         requires gains { AreGains C.scale C.within (length network.now.arcs) (map C.meaning gains.now) }
-        requires size { length flow.now ≡ length network.now.arcs }
-        requires within { IsWithin network.now.arcs flow.now }
+        requires near { IsNear network.now.arcs flow.now }
         requires part { IsPart part }
         ensures sound { IfOk result (IsSound C.scale C.meaning network.now.arcs flow.now (map C.meaning gains.now)) }
         ensures whole { IfOk result (λ residual. IsLast part → IsWhole network.now.arcs flow.now (length network.now.arcs) residual.steps.items) }
     {
         let mut residual = Residual::none(alloc);
         for arc in 0..network.arc_count() {
-            let least = part.least_room(network, arc);
-            residual.add(network, gains, flow, Step { arc, back: false }, least)?;
-            residual.add(network, gains, flow, Step { arc, back: true }, least)?;
+            residual.add_arc(network, gains, flow, part, arc)?;
         }
+        residual.add_elements(network, gains, flow, part)?;
         Ok(residual)
     }
 }

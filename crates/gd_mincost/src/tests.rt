@@ -5,14 +5,13 @@ ghost use Rattle.gd_mincost.specs.Part.{IsPart};
 use crate::gains::gains;
 use crate::part::Part;
 use crate::residual::Residual;
-use crate::walk::least_room;
 use gd_cost::Tariff;
 use gd_network::Network;
 use gd_question::{Question, QuestionBuilder};
 use gd_schedule::Schedule;
 use gd_system::{System, SystemBuilder};
 use gd_units::{CycleNo, Dth, Kind, Name, Round};
-use gd_walks::Step;
+use gd_walks::{Step, least_room, within_is_near};
 use std::alloc::{AllocError, Global};
 use std::process::Abort;
 use std::test::Fail;
@@ -97,6 +96,7 @@ fn links(
     };
     let flow = network.flow_of(alloc, schedule)?;
     let gains = gains(alloc, network)?;
+    within_is_near(network, flow.amounts());
     let residual = Residual::of(alloc, network, &gains, flow.amounts(), part)?;
     Ok(Some(residual))
 }
@@ -123,7 +123,8 @@ fn links_with_room(rt: HostRuntime) -> Result<(), Fail> {
     let question = question(&rt, alloc);
     let network = Network::of(alloc, &question)?;
     let residual = links(alloc, &network, &schedule(&rt, alloc), last())?.ok_or("not allowed")?;
-    assert_eq!(rt; residual.steps.len(), 24);
+    // 19 of the lines' tenths, and twice 5 of the elements.
+    assert_eq!(rt; residual.steps.len(), 29);
     assert!(rt; link(&residual, 0, false).is_none());
     assert!(rt; link(&residual, 0, true) == Some((1, 0, 0, 0)));
     assert!(rt; link(&residual, 3, true) == Some((2, 3, -1, 1)));
@@ -188,7 +189,8 @@ fn least(
         },
         Step { arc: 0, back: true },
     ];
-    Ok(Some(least_room(network, flow.amounts(), &walk)))
+    within_is_near(network, flow.amounts());
+    Ok(Some(least_room(network, flow.amounts(), &walk, 1000)))
 }
 
 #[test]

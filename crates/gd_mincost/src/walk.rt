@@ -2,19 +2,21 @@
 
 ghost use Rattle.std.specs.Prelude.{◌≡◌, ℕ, ◌<◌, length, map, IfOk, OnOk};
 ghost use Rattle.gd_rules.specs.Scale.{IsAbove};
-ghost use Rattle.gd_network.specs.Flow.{IsWithin};
-ghost use Rattle.gd_walks.specs.Steps.{AreSteps};
 ghost use Rattle.gd_labels.specs.Links.{node_at};
 ghost use Rattle.gd_labels.specs.Found.{IsGaining};
 ghost use Rattle.gd_mincost.specs.Gains.{value};
-ghost use Rattle.gd_mincost.specs.Residual.{IsFeasible, IsSound};
-ghost use Rattle.gd_mincost.specs.Closed.{steps_along, least_room};
+ghost use Rattle.gd_flow.specs.Feasible.{IsFeasible};
+ghost use Rattle.gd_mincost.specs.Residual.{IsSound};
+ghost use Rattle.gd_mincost.specs.Closed.{steps_along};
 
-use crate::residual::{Residual, room};
+use crate::residual::Residual;
 use gd_cost::Cost;
 use gd_network::Network;
-use gd_walks::{Step, push};
+use gd_walks::{Step, least_room, near_fits, push, within_is_near};
 use std::alloc::{AllocError, Global};
+
+/// More than any arc carries.
+const GREATEST: i64 = 1 << 62;
 
 /// The steps of a walk whose links are listed from the last to the first.
 fn steps_along(alloc: Global, steps: &[Step], walk: &[usize]) -> Result<Vec<Step>, AllocError>
@@ -27,20 +29,6 @@ fn steps_along(alloc: Global, steps: &[Step], walk: &[usize]) -> Result<Vec<Step
     }
     along.reverse();
     Ok(along)
-}
-
-/// The least room of a walk's steps.
-pub(crate) fn least_room(network: &Network<'_>, flow: &[i64], walk: &[Step]) -> i64
-    requires steps { AreSteps network.now.arcs walk.now }
-    requires size { length flow.now ≡ length network.now.arcs }
-    requires within { IsWithin network.now.arcs flow.now }
-    ensures { result ≡ least_room network.now.arcs flow.now walk.now }
-{
-    let mut least: i64 = 1 << 62;
-    for step in walk {
-        least = least.min(room(network, flow, *step));
-    }
-    least
 }
 
 /// Carries as much as there is room for along a closed walk of links that gains. What the flow is worth rises.
@@ -60,7 +48,9 @@ pub(crate) fn push_closed<C: Cost>(
 {
     network.known();
     let along = steps_along(alloc, &residual.steps, walk)?;
-    let amount = least_room(network, flow, &along);
+    within_is_near(network, flow);
+    let amount = least_room(network, flow, &along, GREATEST);
+    near_fits(network, flow);
     push(network, flow, &along, amount);
     Ok(())
 }

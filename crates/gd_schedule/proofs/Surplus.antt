@@ -15,6 +15,13 @@ use Rattle.gd_schedule.specs.Surplus.{held, brought, through, size, IsSurplus, I
 use Rattle.gd_schedule.specs.Table.{IsTable}
 use Rattle.gd_schedule.proofs.Balance.{balanced_are_loads, joined}
 
+-- nothing carried brings nothing into any set
+carried_none : (b c : Bool) → carried b c (pos 0) ≡ pos 0
+carried_none true true = refl
+carried_none true false = refl
+carried_none false true = refl
+carried_none false false = refl
+
 -- one entry is raised by an amount
 abbrev pub IsAdded : List ℤ → List ℤ → ℕ → ℤ → Type 0
 IsAdded s t at a = (e : ℕ) → get_or t e (pos 0) ≡ get_or s e (pos 0) +ℤ (if at == e then a else pos 0)
@@ -151,12 +158,6 @@ none_passed q x s n e h = record {
     nothing : (i : ℕ) → i < length q.elements → get_or (replicate n (pos 0)) i (pos 0) ≡ pos 0
     nothing i k = get_or-replicate n i (pos 0) (pos 0) (subst (λ m. i < m) (sym e) k)
 
-    carried_none : (b c : Bool) → carried b c (pos 0) ≡ pos 0
-    carried_none true true = refl
-    carried_none true false = refl
-    carried_none false true = refl
-    carried_none false false = refl
-
 -- What an element carries to the node that it brings, or from there.
 abbrev pub IsCarriedBy : Question → ℕ → ℤ → ℤ → Type 0
 IsCarriedBy q e a z =
@@ -211,12 +212,6 @@ passed_on q x e s t table z grown known long added ends before = record {
 
     earlier : anchor e (element q e) < e + 1
     earlier = let h : anchor e (element q e) ≤ e = (joined e (element q e) (grown e known)).earlier in omega arith
-
-    carried_none : (b c : Bool) → carried b c (pos 0) ≡ pos 0
-    carried_none true true = refl
-    carried_none true false = refl
-    carried_none false true = refl
-    carried_none false false = refl
 
     together : (ht hs ih it b th tn fe ge c : ℤ) → ht ≡ hs +ℤ it → hs +ℤ ih ≡ b +ℤ th → it ≡ ih +ℤ c → tn +ℤ fe ≡ th +ℤ ge → fe ≡ pos 0 → ge ≡ c → ht ≡ b +ℤ tn
     together ht hs ih it b th tn fe ge c h k m n o p = omega (arith, ints)

@@ -1,6 +1,6 @@
 //! Which schedules are allowed.
 
-ghost use Rattle.std.specs.Prelude.{◌≡◌, ◌≢◌, ℕ, ◌≤◌, ◌<◌, pos, length, get_or, OnOk, IfErr};
+ghost use Rattle.std.specs.Prelude.{◌≡◌, ◌≢◌, ◌<◌, pos, length, get_or, OnOk, IfErr};
 ghost use Rattle.gd_rules.specs.Question.{element as asked_element};
 ghost use Rattle.gd_rules.specs.Schedule.{IsAllowed};
 ghost use Rattle.gd_question.specs.Known.{limit_of};

@@ -1,4 +1,4 @@
-ghost use Rattle.std.specs.Prelude.{◌≡◌, ℕ, ◌+◌, ◌<◌, ◌≤◌, ◌++◌, ◌∷◌, [], List, length, false, None, MatchResult, IfSome, IfOk, IfErr, OnOk, OnErr, Ok, Err, ◌⊎◌};
+ghost use Rattle.std.specs.Prelude.{◌≡◌, ℕ, ◌+◌, ◌<◌, ◌≤◌, ◌++◌, ◌∷◌, [], length, false, None, IfSome, IfOk, IfErr, OnOk, OnErr, Ok, Err, ◌⊎◌};
 ghost use Rattle.gd_rules.specs.Question.Element.{Segment as segment};
 ghost use Rattle.gd_tree.specs.Grown.{Joins};
 ghost use Rattle.gd_system.specs.Join.{join_of};

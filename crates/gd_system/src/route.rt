@@ -1,4 +1,4 @@
-ghost use Rattle.std.specs.Prelude.{◌≡◌, ◌<◌, ◌≤◌, ℕ, List, length, IfOk, IfErr, Ok, Err, ◌⊎◌};
+ghost use Rattle.std.specs.Prelude.{◌≡◌, ◌<◌, ℕ, List, length, IfOk, IfErr, Ok, Err, ◌⊎◌};
 ghost use Rattle.gd_tree.specs.Grown.{route_of};
 ghost use Rattle.gd_system.specs.Pipeline.{Pipeline, elements_of};
 ghost use Rattle.gd_system.specs.Route.{ends_between, ends_of, AreEnds, AreParted, IsTheRoute};

@@ -1,7 +1,6 @@
 //! The set of a cut that a text offers.
 
-ghost use Rattle.std.specs.Prelude.{◌≡◌, length, Ok, Err, IfOk, MatchResult};
-ghost use Rattle.gd_system.specs.Known.{IsSystem};
+ghost use Rattle.std.specs.Prelude.{◌≡◌, Ok, Err, IfOk, MatchResult};
 ghost use Rattle.gd_text.specs.Building.{Builds};
 ghost use Rattle.gd_text.specs.Members as spec;
 

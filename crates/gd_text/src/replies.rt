@@ -1,4 +1,4 @@
-ghost use Rattle.std.specs.Prelude.{◌≡◌, ◌≢◌, ◌<◌, ◌≤◌, ℕ, length, IfOk, IfSome, IfNone, MatchOption, OnOk, ◌++◌, ◌∷◌, [], ◌-◌, get_or, map};
+ghost use Rattle.std.specs.Prelude.{◌≡◌, ◌<◌, ◌≤◌, length, IfOk, IfSome, IfNone, OnOk, ◌++◌, ◌∷◌, [], ◌-◌, get_or, map};
 ghost use Rattle.gd_schedule.specs.Exact.{Explains};
 ghost use Rattle.gd_schedule.specs.declared.Broken.TheVariants.{OutOfMemory};
 ghost use Rattle.gd_cost.specs.Parts.{class_words};

@@ -3,6 +3,7 @@
 use super::*;
 use gd_certificate::{Cut, Prices};
 use gd_cost::{Lex, Pair, Tariff};
+use gd_question::Question;
 use gd_schedule::Schedule;
 use gd_text_part::{Form, TextFault, read_all};
 use gd_units::Dth;
@@ -79,33 +80,60 @@ fn prices_in(alloc: Global) -> Result<Prices<Tariff>, AllocError> {
     Ok(Prices::of(prices))
 }
 
+// The rows of a best schedule; `None` where it isn't shaped like the question.
+fn best_text(
+    alloc: Global,
+    question: &Question,
+    schedule: &Schedule,
+    prices: &Prices<Tariff>,
+) -> Result<Option<String>, AllocError> {
+    if schedule.len() != question.line_count()
+        || prices.values().len() != question.element_count()
+    {
+        return Ok(None);
+    }
+    let rows = solved_replies(alloc, question, schedule, prices)?;
+    Ok(Some(printed(alloc, rows.as_slice())?))
+}
+
+// The rows of a cut of an excess of 60; `None` where it isn't shaped like the question.
+fn cut_text(alloc: Global, question: &Question, cut: &Cut) -> Result<Option<String>, AllocError> {
+    let system = question.system();
+    if cut.places().len() != system.place_count()
+        || cut.points().len() != system.point_count()
+        || cut.pools().len() != system.pool_count()
+    {
+        return Ok(None);
+    }
+    let rows = cut_replies(alloc, question, cut, 60)?;
+    Ok(Some(printed(alloc, rows.as_slice())?))
+}
+
 #[test]
 fn a_best_schedule_is_told_with_its_prices(rt: HostRuntime) -> Result<(), Fail> {
     let alloc = rt.alloc();
     let asked = asked_in(alloc)?;
     let schedule = schedule_in(alloc)?;
     let prices = prices_in(alloc)?;
-    assert!(rt; schedule.len() == asked.question.line_count());
-    assert!(rt; prices.values().len() == asked.question.element_count());
-    let rows = solved_replies(alloc, &asked.question, &schedule, &prices)?;
-    assert_eq!(rt; printed(alloc, rows.as_slice())?.as_str(), SOLVED);
+    let text = best_text(alloc, &asked.question, &schedule, &prices)?.ok_or("no shape")?;
+    assert_eq!(rt; text.as_str(), SOLVED);
     Ok(())
+}
+
+fn small_cut(alloc: Global) -> Result<Cut, AllocError> {
+    Ok(Cut::of(
+        vec![in alloc; true, false]?,
+        vec![in alloc; true, false]?,
+        vec![in alloc; true]?,
+    ))
 }
 
 #[test]
 fn a_cut_is_told_by_its_members(rt: HostRuntime) -> Result<(), Fail> {
     let alloc = rt.alloc();
     let asked = asked_in(alloc)?;
-    let system = asked.question.system();
-    let cut = Cut::of(
-        vec![in alloc; true, false]?,
-        vec![in alloc; true, false]?,
-        vec![in alloc; true]?,
-    );
-    assert!(rt; cut.places().len() == system.place_count());
-    assert!(rt; cut.points().len() == system.point_count());
-    assert!(rt; cut.pools().len() == system.pool_count());
-    let rows = cut_replies(alloc, &asked.question, &cut, 60)?;
-    assert_eq!(rt; printed(alloc, rows.as_slice())?.as_str(), CUT);
+    let cut = small_cut(alloc)?;
+    let text = cut_text(alloc, &asked.question, &cut)?.ok_or("no shape")?;
+    assert_eq!(rt; text.as_str(), CUT);
     Ok(())
 }

@@ -1,4 +1,4 @@
-ghost use Rattle.std.specs.Prelude.{◌≡◌, ◌⊎◌, ◌+◌, ◌<◌, ◌≤◌, ◌^◌, ℕ, length, List, Ok, Err, Some, None, Option, option_map, IfOk, MatchResult};
+ghost use Rattle.std.specs.Prelude.{◌≡◌, ◌⊎◌, ◌+◌, ◌<◌, Ok, Err, Some, None, Option, IfOk, MatchResult};
 ghost use Rattle.gd_text.specs.Building.{Builds};
 ghost use Rattle.gd_text.specs.Values as spec;
 

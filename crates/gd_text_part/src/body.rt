@@ -1,6 +1,6 @@
 //! What the fields of each kind of row are, from the second on.
 
-ghost use Rattle.std.specs.Prelude.{◌≡◌, ◌<◌, ◌+◌, IfOk, MatchResult, Ok, Err};
+ghost use Rattle.std.specs.Prelude.{◌≡◌, ◌<◌, IfOk, MatchResult, Ok, Err};
 ghost use Rattle.csv.specs.Records.{fields_of};
 ghost use Rattle.gd_text_part.specs.declared.row.Row.TheVariants as rows;
 ghost use Rattle.gd_text_part.specs.Rows as spec;

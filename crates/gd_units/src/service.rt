@@ -1,5 +1,4 @@
 ghost use Rattle.std.specs.Prelude.{◌≡◌, ◌≤◌, ◌<◌, ℕ, MatchOption, ◌⊎◌, Some};
-ghost use Rattle.std.specs.Fmt.{decimal};
 
 use std::fmt;
 use std::marker::Model;

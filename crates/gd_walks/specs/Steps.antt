@@ -1,5 +1,6 @@
 -- Walks over a network's arcs, and how far a flow is from its bounds.
-use Rattle.std.specs.Prelude.{◌≡◌, ℕ, ◌+◌, ◌<◌, ◌≤◌, ◌≢◌, ◌⊎◌, ◌≤ℤ◌, ◌<ℤ◌, List, [], ◌∷◌, length, get_or, slice_set, true, false, ℤ, pos, negsuc, ◌-ℤ◌, ◌+ℤ◌, cond}
+use Rattle.std.specs.Prelude.{◌≡◌, ℕ, ◌+◌, ◌^◌, ◌<◌, ◌≤◌, ◌≢◌, ◌⊎◌, ◌≤ℤ◌, ◌<ℤ◌, List, [], ◌∷◌, length, map, fold, get_or, slice_set, true, false, ℤ, pos, negsuc, ◌-ℤ◌, ◌+ℤ◌, cond}
+use Rattle.std.specs.Int.{int_min}
 use Rattle.gd_rules.specs.Sum.{sum_nat}
 use Rattle.gd_network.specs.Arcs.{Net, from_at, to_at, lower_at, upper_at}
 use Rattle.gd_network.specs.Flow.{flow_at}
@@ -39,6 +40,10 @@ AreSteps n walk = (k : ℕ) (s : Step) → k < length walk → (get_or walk k s)
 abbrev pub Once : List Step → Type 0
 Once walk = (j k : ℕ) (s : Step) → j < k → k < length walk → (get_or walk j s).arc ≡ (get_or walk k s).arc → (get_or walk j s).back ≢ (get_or walk k s).back
 
+-- The least room of the steps, and at most so much.
+abbrev pub least_room : Net → List ℤ → List Step → ℤ → ℤ
+least_room n flow walk most = fold int_min most (map (room n flow) walk)
+
 -- Each step has the room for d.
 abbrev pub HasRooms : Net → List ℤ → List Step → ℤ → Type 0
 HasRooms n flow walk d = (k : ℕ) (s : Step) → k < length walk → d ≤ℤ room n flow (get_or walk k s)
@@ -52,13 +57,22 @@ above_none (negsuc n) = 0
 abbrev pub amiss : ℤ → ℤ → ℤ → ℕ
 amiss low high f = above_none (low -ℤ f) + above_none (f -ℤ high)
 
+-- How far an arc's amount is from its bounds.
+abbrev pub amiss_at : Net → List ℤ → ℕ → ℕ
+amiss_at n flow a = amiss (lower_at n a) (upper_at n a) (flow_at flow a)
+
 -- How far all arcs together are from their bounds.
 abbrev pub all_amiss : Net → List ℤ → ℕ
-all_amiss n flow = sum_nat (length n) (λ a. amiss (lower_at n a) (upper_at n a) (flow_at flow a))
+all_amiss n flow = sum_nat (length n) (amiss_at n flow)
+
+-- There is an amount for each arc, and none is too far from its bounds to count with.
+pub record IsNear (n : Net) (flow : List ℤ) : Type 0 where
+  pub size : length flow ≡ length n
+  pub near : (a : ℕ) → a < length n → amiss_at n flow a ≤ 2 ^ 62
 
 -- No arc is further from its bounds.
 abbrev pub IsNearer : Net → List ℤ → List ℤ → Type 0
-IsNearer n old new = (a : ℕ) → a < length n → amiss (lower_at n a) (upper_at n a) (flow_at new a) ≤ amiss (lower_at n a) (upper_at n a) (flow_at old a)
+IsNearer n old new = (a : ℕ) → a < length n → amiss_at n new a ≤ amiss_at n old a
 
 -- A step along an arc that carries too little, or back along one that carries too much.
 abbrev pub Mends : Net → List ℤ → Step → Type 0

@@ -1,12 +1,15 @@
 //! Walks over a network's arcs, and what a push along one leaves.
 #![tactic(auto)]
 
+mod rooms;
+
 ghost use Rattle.std.specs.Prelude.{◌≡◌, ℕ, ◌<◌, length, get_or, slice_set, pos, ◌≤ℤ◌, ◌<ℤ◌, FitsSigned};
 ghost use Rattle.std.specs.Int.{w64};
 ghost use Rattle.gd_network.specs.Flow.{flow_at, IsCirculation, IsWithin};
 ghost use Rattle.gd_walks.specs.Steps.{moved, pushed, Follows, Once, AreSteps, HasRooms, IsNearer, Mends, all_amiss};
 
 use gd_network::Network;
+pub use rooms::{least_room, near_fits, within_is_near};
 
 /// A step of a walk: along an arc, or back along it.
 #[derive(Clone, Copy, Debug)]

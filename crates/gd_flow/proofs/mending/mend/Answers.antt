@@ -5,11 +5,8 @@ use Rattle.gd_walks.specs.Steps.{HasRooms, Follows, Mends}
 use Rattle.gd_flow.specs.Search.{Closes}
 use Rattle.gd_flow.specs.Ways.{IsWay}
 use Rattle.gd_flow.specs.declared.mending.Way.{Way}
-use Rattle.gd_flow.proofs.Amiss.{fits_kept, still_kept}
+use Rattle.gd_flow.proofs.Amiss.{still_kept, fault_some}
 use Rattle.gd_flow.proofs.mending.mend.Goals as goal
-
-pub push-requires-clause-fits : goal.push-requires-clause-fits
-push-requires-clause-fits c = fits_kept _ c.args.network.now.arcs c.loop-fault.flow c.known.ensures.sound c.loop-fault.invariant.kept
 
 pub push-requires-clause-rooms : goal.push-requires-clause-rooms
 push-requires-clause-rooms c =
@@ -33,7 +30,7 @@ loop-fault-smaller c =
     let none : Step = record { arc = 0; back = false } in
     c.push.ensures.mends closes.place none
     (subst (λ (ws : List Step). closes.place < length ws) (sym value) closes.within)
-    (subst (λ z. pos 0 <ℤ z) (sym read) c.least_room-amount.ensures.some)
+    (subst (λ z. pos 0 <ℤ z) (sym read) (c.least_room-amount.ensures.some (fault_some n flow step c.args.number c.in-Some.fault.amount c.loop-fault.invariant.kept c.requires.arc c.in-Some.ensures.0 mends c.in-Some.ensures.2) (subst (λ (ws : List Step). HasRooms n flow ws (pos 1)) (sym c.deref.ensures.value) closes.rooms)))
     (subst (λ (ws : List Step). Mends n flow (get_or ws closes.place none)) (sym value) (subst (Mends n flow) (sym (closes.taken none)) mends))
 
 pub loop-fault-preserved : goal.loop-fault-preserved

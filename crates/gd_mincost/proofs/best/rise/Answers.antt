@@ -3,7 +3,7 @@ use Rattle.std.specs.Prelude.{ℤ, List}
 use Rattle.gd_mincost.specs.Gains.{value}
 use Rattle.gd_mincost.specs.Part.{IsPart, after}
 use Rattle.gd_mincost.specs.declared.part.Part.{Part}
-use Rattle.gd_mincost.specs.Residual.{IsFeasible}
+use Rattle.gd_flow.specs.Feasible.{IsFeasible}
 use Rattle.gd_mincost.specs.Closed.{AreShown}
 use Rattle.gd_mincost.proofs.Value.{rank_falls, value_fits}
 use Rattle.gd_mincost.proofs.Shown.{are_shown}

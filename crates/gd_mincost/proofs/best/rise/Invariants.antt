@@ -1,7 +1,7 @@
 use Rattle.std.proofs.Common.{◌+◌, ◌-◌, ◌*◌, ◌^◌, length, map}
 use Rattle.gd_mincost.specs.Gains.{value}
 use Rattle.gd_mincost.specs.Part.{IsPart, after}
-use Rattle.gd_mincost.specs.Residual.{IsFeasible}
+use Rattle.gd_flow.specs.Feasible.{IsFeasible}
 use Rattle.gd_mincost.proofs.best.rise.Given as goal
 
 abbrev pub invariant-loop-residual : goal.invariant-loop-residual

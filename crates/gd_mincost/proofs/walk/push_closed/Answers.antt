@@ -1,12 +1,12 @@
-use Rattle.std.proofs.Common.{◌≡◌, ◌+◌, ◌<◌, List, length, map, sym, subst, to_z, of_z}
+use Rattle.std.proofs.Common.{◌≡◌, ◌<◌, List, length, map, sym, subst, to_z, of_z, ◌∙◌, arith}
+use Rattle.std.specs.Prelude.{ℤ, FitsSigned}
+use Rattle.std.proofs.lemmas.Int.{ints, to_z-of_z}
 use Rattle.std.specs.Int.{w64}
-use Rattle.gd_rules.specs.Scale.{IsAbove}
 use Rattle.gd_walks.specs.declared.Step.{Step}
 use Rattle.gd_walks.specs.Steps.{AreSteps}
 use Rattle.gd_labels.specs.Links.{node_at}
-use Rattle.gd_mincost.specs.Gains.{value}
-use Rattle.gd_mincost.specs.Closed.{steps_along, least_room}
-use Rattle.gd_mincost.proofs.Along.{CanPush, can_push, along_is, amount_is, along_gains, along_follows, trail_in, are_steps, flow_fits}
+use Rattle.gd_mincost.specs.Closed.{steps_along}
+use Rattle.gd_mincost.proofs.Along.{CanPush, can_push, along_is, along_gains, along_follows, trail_in, are_steps}
 use Rattle.gd_mincost.proofs.Value.{push_rises}
 use Rattle.gd_mincost.proofs.walk.push_closed.Goals as goal
 
@@ -26,18 +26,16 @@ least_room-amount-requires-clause-steps g c =
     subst (AreSteps n) (sym is)
     (are_steps g.C.Cost.scale n c.args.flow.now (map g.C.Cost.meaning c.args.gains.now) r.links.from.items r.links.to.items (map g.C.Cost.meaning r.links.gain.items) r.steps.items c.requires.sound w.node w.node c.args.walk.now w.closed)
 
-pub push-requires-clause-fits : goal.push-requires-clause-fits
-push-requires-clause-fits g c = flow_fits (length c.args.network.now.question.asked.elements + 1) c.args.network.now.arcs c.args.flow.now c.known.ensures.sound c.requires.feasible
-
 can : (g : _) (c : goal.After-deref-3 g) → CanPush c.args.network.now.arcs c.args.flow.now c.deref-3.result.now (to_z w64 (of_z w64 c.least_room-amount.result))
 can g c =
     let n = c.args.network.now.arcs in
+    let flow = c.args.flow.now in
     let r = c.args.residual.now in
+    let z : ℤ = c.least_room-amount.result in
     let is : c.deref-3.result.now ≡ steps_along r.steps.items c.args.walk.now = along_is r.steps.items c.deref.result.now c.args.walk.now c.in_ok-along.along.items c.deref-3.result.now c.deref.ensures.value c.in_ok-along.ensures c.deref-3.ensures.value in
-    let amount : to_z w64 (of_z w64 c.least_room-amount.result) ≡ least_room n c.args.flow.now c.deref-3.result.now =
-    amount_is n c.args.flow.now c.in_ok-along.along.items c.deref-2.result.now c.deref-3.result.now c.least_room-amount.result c.least_room-amount.type_inv c.least_room-amount.ensures c.deref-2.ensures.value c.deref-3.ensures.value in
-    can_push g.C.Cost.scale n c.args.flow.now (map g.C.Cost.meaning c.args.gains.now) r.links.from.items r.links.to.items (map g.C.Cost.meaning r.links.gain.items) r.steps.items c.requires.sound c.args.walk.now c.requires.closed
-    c.deref-3.result.now (to_z w64 (of_z w64 c.least_room-amount.result)) is amount
+    let fits : FitsSigned w64 z = record { sfits = c.least_room-amount.type_inv } in
+    can_push g.C.Cost.scale n flow (map g.C.Cost.meaning c.args.gains.now) r.links.from.items r.links.to.items (map g.C.Cost.meaning r.links.gain.items) r.steps.items c.requires.sound c.args.walk.now c.requires.closed
+    c.deref-3.result.now c.deref-2.result.now (to_z w64 (of_z w64 z)) z is (c.deref-3.ensures.value ∙ sym c.deref-2.ensures.value) (to_z-of_z w64 z fits) c.least_room-amount.ensures.rooms (c.least_room-amount.ensures.some (omega (arith, ints)))
 
 pub push-requires-clause-amount : goal.push-requires-clause-amount
 push-requires-clause-amount g c = (can g c).low
@@ -73,8 +71,9 @@ returns-clause-rises g c =
     let gains = map g.C.Cost.meaning c.args.gains.now in
     let r = c.args.residual.now in
     let is : c.deref-3.result.now ≡ steps_along r.steps.items c.args.walk.now = along_is r.steps.items c.deref.result.now c.args.walk.now c.in_ok-along.along.items c.deref-3.result.now c.deref.ensures.value c.in_ok-along.ensures c.deref-3.ensures.value in
-    let amount : to_z w64 (of_z w64 c.least_room-amount.result) ≡ least_room n flow c.deref-3.result.now =
-    amount_is n flow c.in_ok-along.along.items c.deref-2.result.now c.deref-3.result.now c.least_room-amount.result c.least_room-amount.type_inv c.least_room-amount.ensures c.deref-2.ensures.value c.deref-3.ensures.value in
-    let can = can_push s n flow gains r.links.from.items r.links.to.items (map g.C.Cost.meaning r.links.gain.items) r.steps.items c.requires.sound c.args.walk.now c.requires.closed c.deref-3.result.now (to_z w64 (of_z w64 c.least_room-amount.result)) is amount in
+    let z : ℤ = c.least_room-amount.result in
+    let fits : FitsSigned w64 z = record { sfits = c.least_room-amount.type_inv } in
+    let can = can_push s n flow gains r.links.from.items r.links.to.items (map g.C.Cost.meaning r.links.gain.items) r.steps.items c.requires.sound c.args.walk.now c.requires.closed
+    c.deref-3.result.now c.deref-2.result.now (to_z w64 (of_z w64 z)) z is (c.deref-3.ensures.value ∙ sym c.deref-2.ensures.value) (to_z-of_z w64 z fits) c.least_room-amount.ensures.rooms (c.least_room-amount.ensures.some (omega (arith, ints))) in
     push_rises s l gains n c.deref-3.result.now flow c.push.new.flow (to_z w64 (of_z w64 c.least_room-amount.result)) c.requires.feasible.size can.steps can.some
     (along_gains s l n flow gains r.links.from.items r.links.to.items (map g.C.Cost.meaning r.links.gain.items) r.steps.items c.requires.sound c.args.walk.now c.requires.closed c.deref-3.result.now is) c.push.ensures.pushed
