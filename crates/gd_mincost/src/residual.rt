@@ -134,7 +134,8 @@ impl<C: Cost> Residual<C> {
     /// that can carry so much less.
     ///
     /// The elements' links come twice, from the first and at the end from the last: they are a tree, each with its node
-    /// behind an earlier one, so that one sweep carries a label from any node of it to any other.
+    /// behind an earlier one, so that the end of one sweep and the beginning of the next carry a label from any node of it
+    /// to any other.
     pub(crate) fn of(
         alloc: Global,
         network: &Network<'_>,
