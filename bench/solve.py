@@ -1,17 +1,36 @@
 #!/usr/bin/env python3
-"""Measures `PROGRAM solve`.
+"""Measures `PROGRAM solve`, beside LEMON's network simplex.
 
-    bench/solve.py PROGRAM [--only WORD] [--seconds N]
+    bench/solve.py PROGRAM [--only WORD] [--seconds N] [--runs N] [--trial TRIAL]
 
-Random questions of 200, 1,000 and 5,000 lines, made by generate.py, show the
-whole solver. The largest questions with fixed lines show the repair: where one
-schedule is allowed the solver has nothing to choose after it, and where none is
-it ends with a cut. One run each; a run that takes longer than N seconds, else
-600, is ended. 1 MB is 1,000,000 bytes. Nothing is asserted about speed: the
-exit status is 1 only where the program answers wrongly.
+The questions are made by generate.py: random ones of 200 to 20,000 lines, in
+networks that grow with them, and the largest ones in each shape. Of these, six
+kinds: as they come (many allowed); scarce ones, with floors (tight 20 and 95);
+one dekatherm too much for the floors (impossible); and fixed lines, where one
+schedule is allowed, or none. --only takes those with WORD in their names.
+
+Of the program the table has the seconds of a whole run by the clock and by the
+processor, each the least of N runs (else 3), and the greatest peak of memory;
+1 MB is 1,000,000 bytes. Where lemon.cpp beside this file can be compiled (by
+g++, with Debian's liblemon-dev) it runs in turn with the program. LEMON's
+seconds are those of its `run` alone, without reading, the least of N runs too.
+It goes by classes alone, with ten arcs a line. A run that takes longer than
+--seconds, else 600, is ended.
+
+With --trial each question is also handed to `TRIAL proposed`, which prints one
+line: what became of the simplex's proposal, `passes`, `cut` or `refused`, and
+the number of its pivots, which the table has too.
+
+The exit status is 1 where an answer is wrong: where it begins with another word
+than it should, or where that word or a total of a class isn't LEMON's. It is 1
+too where TRIAL tells anything but `passes` for a schedule and `cut` for a cut,
+and where the program takes longer than 10 seconds: then what the simplex
+proposed was refused, and the plain searches did the work.
 """
 
 import argparse
+import os
+import shutil
 import subprocess
 import sys
 import tempfile
@@ -20,6 +39,11 @@ from typing import NamedTuple
 
 from measure import GENERATE, MEGABYTE, RSS_BYTES
 
+LEMON = Path(__file__).resolve().parent / "lemon.cpp"
+CLASSES = 8
+# Seconds that no question takes whose proposal is taken.
+REFUSED = 10
+
 
 class Case(NamedTuple):
     name: str
@@ -27,68 +51,218 @@ class Case(NamedTuple):
     first: str  # what the answer begins with
 
 
+class Answer(NamedTuple):
+    first: str  # the first word
+    totals: list  # of the eight classes; empty where the word isn't `best`
+
+    def told(self):
+        return " ".join(map(str, [self.first or "nothing", *self.totals]))
+
+
+class Run(NamedTuple):
+    seconds: float  # by the clock
+    processor: float
+    peak: int  # bytes
+    status: int  # None where the run was ended
+    answer: Answer
+
+
 def sized(places, points, pools, lines):
     numbers = {"places": places, "points": points, "pools": pools, "lines": lines}
     return [f"--{name}={number}" for name, number in numbers.items()]
 
 
+RANDOM = [
+    (51, 50, 4, 200),
+    (201, 200, 16, 1_000),
+    (1_001, 1_000, 64, 5_000),
+    (2_001, 2_000, 128, 10_000),
+    (4_001, 4_000, 256, 20_000),
+]
+SHAPES = {"tree": "branching", "chain": "deep", "star": "star"}
+LARGEST = [
+    ("many allowed", ["--solve"], "best"),
+    ("tight 20", ["--solve", "--tight=20", "--floors=30"], "best"),
+    ("tight 95", ["--solve", "--tight=95", "--floors=30"], "best"),
+    ("impossible", ["--solve", "--floors=50", "--impossible"], "cut"),
+    ("one allowed", ["--fixed"], "best"),
+    ("none allowed", ["--short"], "cut"),
+]
 CASES = [
-    Case("random, 200 lines", ["branching", "--solve", *sized(51, 50, 4, 200)], "best"),
-    Case("random, 1,000 lines", ["branching", "--solve", *sized(201, 200, 16, 1000)], "best"),
-    Case("random, 5,000 lines", ["branching", "--solve", *sized(1001, 1000, 64, 5000)], "best"),
-    Case("star, one allowed", ["star", "--fixed"], "best"),
-    Case("star, none allowed", ["star", "--short"], "cut"),
-    Case("tree, one allowed", ["branching", "--fixed"], "best"),
-    Case("tree, none allowed", ["branching", "--short"], "cut"),
-    Case("chain, one allowed", ["deep", "--fixed"], "best"),
-    Case("chain, none allowed", ["deep", "--short"], "cut"),
+    Case(f"random, {size[-1]:,} lines", ["branching", "--solve", *sized(*size)], "best")
+    for size in RANDOM
+] + [
+    Case(f"{name}, {kind}", [shape, *words], first)
+    for name, shape in SHAPES.items()
+    for kind, words, first in LARGEST
 ]
 
-# Runs a command for so many seconds at most, and tells its time by the clock and by the processor, and its peak.
+# Runs a command for so many seconds at most, and tells its time by the clock
+# and by the processor, its peak and its status. It is a process of its own,
+# since the peak is that of all commands that a process has waited for; and an
+# alarm ends the command, since a wait with a timeout looks every 50 ms only.
 TIMED = """
-import resource, subprocess, sys, time
+import resource, signal, subprocess, sys, time
+ended = []
+def end(*_):
+    ended.append(True)
+    child.kill()
 begin = time.perf_counter()
-try:
-    status = subprocess.run(sys.argv[2:], timeout=float(sys.argv[1])).returncode
-except subprocess.TimeoutExpired:
-    status = -1
+child = subprocess.Popen(sys.argv[2:])
+signal.signal(signal.SIGALRM, end)
+signal.setitimer(signal.ITIMER_REAL, float(sys.argv[1]))
+status = child.wait()
+took = time.perf_counter() - begin
 used = resource.getrusage(resource.RUSAGE_CHILDREN)
-print(time.perf_counter() - begin, used.ru_utime + used.ru_stime, used.ru_maxrss, status, file=sys.stderr)
+seconds = used.ru_utime + used.ru_stime
+print(took, seconds, used.ru_maxrss, "ended" if ended else status, file=sys.stderr)
 """
 
 
-def timed(program, text, seconds):
-    """Seconds by the clock and by the processor, peak in bytes, status (-1 where it was ended), first field."""
-    words = [sys.executable, "-c", TIMED, str(seconds), program, "solve"]
-    with open(text, "rb") as source:
-        run = subprocess.run(words, stdin=source, capture_output=True)
-    took, used, peak, status = run.stderr.split()[-4:]
-    first = run.stdout.split(b",", 1)[0].decode()
-    return float(took), float(used), int(peak) * RSS_BYTES, int(status), first
+def read_answer(rows):
+    """The answer that a program's rows begin with."""
+    first = next(rows, "").rstrip().split(",")[0]
+    totals = [0] * CLASSES
+    for row in rows:
+        kind, *fields = row.split(",")
+        if kind != "total":
+            break
+        totals[int(fields[0]) - 1] = int(fields[1])
+    return Answer(first, totals if first == "best" else [])
+
+
+def run_program(words, text, seconds):
+    """Runs a command with the file `text` as its standard input."""
+    timed = [sys.executable, "-c", TIMED, str(seconds), *words]
+    with open(text) as source, tempfile.TemporaryFile("w+", errors="replace") as rows:
+        run = subprocess.run(timed, stdin=source, stdout=rows, stderr=subprocess.PIPE)
+        rows.seek(0)
+        answer = read_answer(rows)
+    took, used, peak, status = run.stderr.decode().split()[-4:]
+    status = None if status == "ended" else int(status)
+    return Run(float(took), float(used), int(peak) * RSS_BYTES, status, answer)
+
+
+def compile_lemon(folder):
+    """LEMON's program, or None where it can't be had."""
+    lemon = folder / "lemon"
+    words = ["g++", "-O3", "-std=gnu++17", LEMON, "-o", lemon]
+    if shutil.which("g++") is None:
+        print("There is no g++, so LEMON's column is empty.")
+        return None
+    if subprocess.run(words, stderr=subprocess.DEVNULL).returncode != 0:
+        print("lemon.cpp doesn't compile (liblemon-dev?), so LEMON's column is empty.")
+        return None
+    return lemon
+
+
+def run_lemon(lemon, text, seconds):
+    """Seconds and the answer, or None where the run was ended."""
+    try:
+        run = subprocess.run(
+            [lemon, text], stdout=subprocess.PIPE, timeout=seconds, check=True
+        )
+    except subprocess.TimeoutExpired:
+        return None
+    took, first, *totals = run.stdout.decode().split()
+    return float(took), Answer(first, [int(total) for total in totals])
+
+
+def run_trial(trial, text, seconds):
+    """What became of the proposal, and the number of pivots."""
+    try:
+        with open(text) as source:
+            run = subprocess.run(
+                [trial, "proposed"], stdin=source, stdout=subprocess.PIPE, timeout=seconds
+            )
+    except subprocess.TimeoutExpired:
+        return "ended", ""
+    told = run.stdout.decode(errors="replace").split()
+    return tuple(told) if len(told) == 2 else ("failed", "")
+
+
+def complaints(case, runs, theirs, proposed):
+    """What is wrong with the answers to a question."""
+    if runs[-1].status is None:
+        yield "the program was ended"
+    elif min(run.seconds for run in runs) > REFUSED:
+        yield "what was proposed seems to be refused"
+    for run in runs:
+        if run.status is not None and run.answer.first != case.first:
+            first = run.answer.first or "nothing"
+            yield f"{first} with status {run.status}, not {case.first}"
+        for _, answer in theirs:
+            if run.status is not None and run.answer != answer:
+                yield f"{run.answer.told()}, but LEMON told {answer.told()}"
+    if proposed is not None:
+        wanted = "passes" if case.first == "best" else "cut"
+        if proposed[0] != wanted:
+            yield f"the trial told {proposed[0]}, not {wanted}"
+
+
+def least(seconds, limit):
+    return f"{min(seconds):.3f}" if seconds else f"> {limit:.0f}"
+
+
+def measure(case, text, lemon, arguments):
+    """Prints the question's row of the table. Answers whether all is right."""
+    limit = arguments.seconds
+    with open(text, "wb") as target:
+        subprocess.run([sys.executable, GENERATE, *case.words], stdout=target, check=True)
+    runs, theirs = [], []
+    for _ in range(arguments.runs):
+        runs.append(run_program([arguments.program, "solve"], text, limit))
+        if lemon is not None and None not in theirs:
+            theirs.append(run_lemon(lemon, text, limit))
+        if runs[-1].status is None:
+            break
+    theirs = [run for run in theirs if run is not None]
+    proposed = run_trial(arguments.trial, text, limit) if arguments.trial else None
+    rows = text.read_bytes().count(b"\n")
+    took = least([run.seconds for run in runs if run.status is not None], limit)
+    used = min(run.processor for run in runs)
+    peak = max(run.peak for run in runs) / MEGABYTE
+    their_best = "" if lemon is None else least([seconds for seconds, _ in theirs], limit)
+    pivots = "" if proposed is None else proposed[1]
+    cells = f"{case.name:<22}{rows:>8}{took:>10}{used:>11.3f}{peak:>9.1f}"
+    print(f"{cells}{their_best:>10}{pivots:>9}".rstrip(), flush=True)
+    wrong = list(dict.fromkeys(complaints(case, runs, theirs, proposed)))
+    for complaint in wrong:
+        print(f"{case.name}: {complaint}", file=sys.stderr, flush=True)
+    return not wrong
 
 
 def main():
-    parser = argparse.ArgumentParser(description="Measures `PROGRAM solve`.")
+    parser = argparse.ArgumentParser(
+        description="Measures `PROGRAM solve`, beside LEMON's network simplex."
+    )
     parser.add_argument("program", metavar="PROGRAM")
-    parser.add_argument("--only", default="", metavar="WORD", help="the questions named so")
+    parser.add_argument(
+        "--only", default="", metavar="WORD", help="the questions named so"
+    )
     parser.add_argument("--seconds", type=float, default=600, metavar="N", help="else 600")
+    parser.add_argument("--runs", type=int, default=3, metavar="N", help="else 3")
+    parser.add_argument("--trial", help="a program that tells the number of pivots")
     arguments = parser.parse_args()
-    wrong = 0
-    print(f"{'question':<22}{'rows':>8}{'seconds':>10}{'processor':>11}{'peak MB':>9}")
+    if arguments.runs < 1:
+        parser.error("there must be a run")
+    for program in (arguments.program, arguments.trial):
+        if program is not None and shutil.which(program) is None:
+            print(f"{program} isn't a program", file=sys.stderr)
+            return 1
     with tempfile.TemporaryDirectory() as folder:
         text = Path(folder) / "question.csv"
-        for case in [case for case in CASES if arguments.only in case.name]:
-            with open(text, "wb") as target:
-                subprocess.run([sys.executable, GENERATE, *case.words], stdout=target, check=True)
-            took, used, peak, status, first = timed(arguments.program, text, arguments.seconds)
-            ended = status == -1
-            rows = text.read_bytes().count(b"\n")
-            shown = f"> {took:.0f}" if ended else f"{took:.3f}"
-            print(f"{case.name:<22}{rows:>8}{shown:>10}{used:>11.3f}{peak / MEGABYTE:>9.1f}", flush=True)
-            if not ended and first != case.first:
-                wrong += 1
-                print(f"{case.name}: '{first}' with status {status}", file=sys.stderr)
-    return 1 if wrong else 0
+        lemon = compile_lemon(Path(folder))
+        cells = f"{'question':<22}{'rows':>8}{'seconds':>10}{'processor':>11}{'peak MB':>9}"
+        print(f"{cells}{'LEMON s':>10}{'pivots':>9}", flush=True)
+        right = [
+            measure(case, text, lemon, arguments)
+            for case in CASES
+            if arguments.only in case.name
+        ]
+        floor = run_program(["true"], os.devnull, arguments.seconds).peak / MEGABYTE
+    print(f"No peak below {floor:.1f} MB can be seen: doing nothing shows as much.")
+    return 0 if all(right) else 1
 
 
 if __name__ == "__main__":

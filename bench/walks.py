@@ -1,7 +1,11 @@
 #!/usr/bin/env python3
 """Counts the walks of `PROGRAM solve` on random questions.
 
-    bench/walks.py PROGRAM [--only WORD]
+    bench/walks.py PROGRAM [ARGUMENT ...] [--only WORD]
+
+With arguments, `PROGRAM ARGUMENT ...` gets the questions on its standard input
+in place of `PROGRAM solve`. They are those with WORD in their names, else the
+random ones of 200, 1,000 and 5,000 lines.
 
 Each search of the settling takes one table of labels, 256 bytes a node, and
 ends with one closed walk, but for the searches that end its 216 parts. So this
@@ -21,6 +25,8 @@ from solve import CASES
 
 LABEL_BYTES = 256
 PARTS = 216
+# The first questions, which don't take the plain searches too long.
+USUAL = 3
 
 COUNTING = """
 #define _GNU_SOURCE
@@ -44,27 +50,30 @@ __attribute__((destructor)) static void end(void) { fprintf(stderr, "%lu\\n", co
 """
 
 
-def searches(program, library, text):
-    """How many tables of labels the program takes for a question."""
+def searches(command, library, text):
+    """How many tables of labels the command takes for a question."""
     kinds = [row.split(b",", 1)[0] for row in text.splitlines()]
     nodes = kinds.count(b"segment") + 1 + kinds.count(b"point") + kinds.count(b"pool")
     environment = {**os.environ, "LD_PRELOAD": library, "COUNTED_BYTES": str(LABEL_BYTES * nodes)}
-    run = subprocess.run([program, "solve"], input=text, capture_output=True, env=environment)
+    run = subprocess.run(command, input=text, capture_output=True, env=environment)
     return int(run.stderr.split()[-1])
 
 
 def main():
     parser = argparse.ArgumentParser(description="Counts the walks of `PROGRAM solve`.")
     parser.add_argument("program", metavar="PROGRAM")
-    parser.add_argument("--only", default="00 lines", metavar="WORD", help="the questions named so")
+    parser.add_argument("arguments", nargs="*", metavar="ARGUMENT", help="else solve")
+    parser.add_argument("--only", metavar="WORD", help="the questions named so")
     arguments = parser.parse_args()
+    command = [arguments.program, *(arguments.arguments or ["solve"])]
+    cases = CASES[:USUAL] if arguments.only is None else [case for case in CASES if arguments.only in case.name]
     with tempfile.TemporaryDirectory() as folder:
         source, library = Path(folder) / "counting.c", Path(folder) / "counting.so"
         source.write_text(COUNTING)
         subprocess.run(["gcc", "-shared", "-fPIC", "-O2", source, "-o", library, "-ldl"], check=True)
-        for case in [case for case in CASES if arguments.only in case.name]:
+        for case in cases:
             text = subprocess.run([sys.executable, GENERATE, *case.words], stdout=subprocess.PIPE, check=True).stdout
-            print(f"{case.name:<22}{searches(arguments.program, str(library), text) - PARTS:>10}", flush=True)
+            print(f"{case.name:<22}{searches(command, str(library), text) - PARTS:>10}", flush=True)
 
 
 if __name__ == "__main__":

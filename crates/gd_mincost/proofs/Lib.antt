@@ -3,3 +3,4 @@ pub mod Links
 pub mod Along
 pub mod Shown
 pub mod Table
+pub mod Shows

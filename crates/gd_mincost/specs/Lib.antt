@@ -3,3 +3,4 @@ pub mod Gains
 pub mod Part
 pub mod Residual
 pub mod Closed
+pub mod Stillness

@@ -9,6 +9,7 @@ ghost use Rattle.gd_mincost.specs.Closed.{AreShown};
 use crate::gains::gains;
 use crate::part::Part;
 use crate::residual::Residual;
+use crate::still::show_best;
 use crate::walk::push_closed;
 use gd_cost::{ByClass, Cost};
 use gd_flow::Feasible;
@@ -101,8 +102,28 @@ pub fn settle<'q, C: ByClass>(
     ensures arcs { IfOk result (λ best. best.arcs ≡ feasible.entry.arcs) }
     ensures settled { IfOk result (λ best. IsSettled C.scale C.within (λ class tenth. C.meaning (C.at class tenth)) best.question.asked best.arcs best.flow (map C.meaning best.potentials)) }
 {
+    settle_from(alloc, feasible, Vec::new(alloc))
+}
+
+/// The same, with potentials that may show the flow best already. Where they do, there is nothing left to find.
+pub fn settle_from<'q, C: ByClass>(
+    alloc: Global,
+    feasible: Feasible<'q>,
+    proposed: Vec<C>,
+) -> Result<Best<'q, C>, AllocError>
+    ensures question { IfOk result (λ best. best.question ≡ feasible.entry.question) }
+    ensures arcs { IfOk result (λ best. best.arcs ≡ feasible.entry.arcs) }
+    ensures settled { IfOk result (λ best. IsSettled C.scale C.within (λ class tenth. C.meaning (C.at class tenth)) best.question.asked best.arcs best.flow (map C.meaning best.potentials)) }
+{
     feasible.known();
     let (network, flow) = feasible.into_parts();
+    if show_best(&network, flow.amounts(), &proposed) {
+        return Ok(Best {
+            network,
+            flow,
+            potentials: proposed,
+        });
+    }
     let gains = gains(alloc, &network)?;
     let mut amounts = flow.into_amounts();
     let potentials = rise(alloc, &network, &gains, &mut amounts)?;

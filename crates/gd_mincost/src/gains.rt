@@ -8,7 +8,7 @@ use gd_network::Network;
 use std::alloc::{AllocError, Global};
 
 /// What a dekatherm along an arc gains: nothing along an element's, and along that of a line's tenth what it is worth there.
-fn gain_of<C: ByClass>(network: &Network<'_>, number: usize) -> C
+pub(crate) fn gain_of<C: ByClass>(network: &Network<'_>, number: usize) -> C
     requires { number < length network.now.arcs }
     ensures is { IsGainAt C.scale (λ class tenth. C.meaning (C.at class tenth)) network.now.question.asked number (C.meaning result) }
     ensures small { IsTrue (C.within (pos 16) (C.meaning result)) }

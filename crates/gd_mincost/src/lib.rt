@@ -5,9 +5,11 @@ mod best;
 mod gains;
 mod part;
 mod residual;
+mod still;
 mod walk;
 
-pub use best::{Best, settle};
+pub use best::{Best, settle, settle_from};
+pub use still::show_best;
 
 #[cfg(test)]
 mod tests;

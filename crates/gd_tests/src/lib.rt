@@ -1,4 +1,4 @@
-//! Worked examples by calls that stand on questions: certificates, networks, repairs and the solver. Each question is a text.
+//! Worked examples by calls: pipelines, questions, certificates, networks, repairs and the solver. Each question is a text.
 //!
 //! There is nothing here but tests.
 #![tactic(auto)]
@@ -9,6 +9,8 @@ mod certificate;
 mod flow;
 #[cfg(test)]
 mod network;
+#[cfg(test)]
+mod simplex;
 #[cfg(test)]
 mod solver;
 #[cfg(test)]

@@ -1,4 +1,6 @@
-use Rattle.std.proofs.Common.{ℤ, List, map, subst, sym, ◌∙◌}
+use Rattle.std.proofs.Common.{◌<◌, ◌^◌, ℤ, List, length, map, subst, sym, ◌∙◌, IsTrue}
+use Rattle.std.specs.Prelude.{pos}
+use Rattle.std.proofs.lemmas.List.{length-map}
 use Rattle.gd_rules.specs.Schedule.{IsAllowed}
 use Rattle.gd_rules.specs.Spread.{IsBest}
 use Rattle.gd_rules.specs.Tariff.{IsPricedByTariff}
@@ -12,6 +14,11 @@ use Rattle.gd_network.specs.Arcs.{Net}
 use Rattle.gd_mincost.specs.Settled.{IsSettled, potential}
 use Rattle.gd_solver.proofs.Solved.{gain_of, gains, by_tariff}
 use Rattle.gd_solver.proofs.answer.best_of.Goals as goal
+
+pub prices_of-requires-clause-small : goal.prices_of-requires-clause-small
+prices_of-requires-clause-small c = λ node h.
+    subst (λ (xs : List (Pair (Lex 8) (Lex 8))). IsTrue (both_fit (words_fit 8) (words_fit 8) (pos (2 ^ 39)) (potential tariff (map class_words xs) node))) (sym c.potentials.ensures)
+    (c.in_ok-best.ensures.settled.small node (subst (λ m. node < m) (sym (length-map c.in_ok-best.best.potentials class_words)) (subst (λ (xs : List (Pair (Lex 8) (Lex 8))). node < length xs) c.potentials.ensures h)))
 
 pub returns : goal.returns
 returns c =

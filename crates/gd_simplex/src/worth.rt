@@ -1,0 +1,138 @@
+//! What a dekatherm is worth, in a form that is quick to add and to compare.
+
+use gd_cost::{Lex, Pair, Tariff};
+use std::alloc::{AllocError, Global};
+
+/// How many bits a class has in `Worth::classes`.
+const CLASS_BITS: u32 = 14;
+
+/// How many bits a class has in `Worth::spread`.
+const SPREAD_BITS: u32 = 16;
+
+/// The eight classes, and class 0 for elements.
+const CLASSES: usize = 9;
+
+/// How many worths there are in the table for each class: more than there are pieces.
+const PIECES: usize = 16;
+
+/// A whole number for each class and, for each, one of the spread, in two numbers: each class has some bits of them, the
+/// first class the highest. So two additions add all, and at most two comparisons find the first that differ.
+///
+/// Above the classes stands how far elements are beyond their bounds, so that this counts most. No number outgrows its bits: each is a sum
+/// along a way through the tree, which comes to each of at most 4,352 points and pools once, and so goes over fewer lines.
+/// Were one to do so, it would run into the next class, and the proposal would be worse; nothing else would be wrong.
+#[derive(Clone, Copy, Debug)]
+pub(crate) struct Worth {
+    classes: i128,
+    spread: i128,
+}
+
+impl Worth {
+    /// Nothing.
+    pub(crate) const NONE: Worth = Worth {
+        classes: 0,
+        spread: 0,
+    };
+
+    /// The sum.
+    #[inline]
+    pub(crate) fn plus(self, other: Worth) -> Worth {
+        Worth {
+            classes: self.classes.wrapping_add(other.classes),
+            spread: self.spread.wrapping_add(other.spread),
+        }
+    }
+
+    /// The difference.
+    #[inline]
+    pub(crate) fn less(self, other: Worth) -> Worth {
+        Worth {
+            classes: self.classes.wrapping_sub(other.classes),
+            spread: self.spread.wrapping_sub(other.spread),
+        }
+    }
+
+    /// Whether it is greater than another.
+    #[inline]
+    pub(crate) fn is_above(self, other: Worth) -> bool {
+        if self.classes == other.classes {
+            self.spread > other.spread
+        } else {
+            self.classes > other.classes
+        }
+    }
+
+    /// The same as a cost.
+    pub(crate) fn tariff(self) -> Tariff {
+        Pair::of(
+            Lex::of(numbers(self.classes, CLASS_BITS)),
+            Lex::of(numbers(self.spread, SPREAD_BITS)),
+        )
+    }
+}
+
+/// The numbers of the eight classes, each of which has so many bits, the last class the lowest.
+///
+/// The first one takes what stands above it too: so how far elements are beyond their bounds counts more than any class, as
+/// it has to, also where the best tree has an element at its bound in the piece beyond it.
+fn numbers(together: i128, bits: u32) -> [i128; 8] {
+    let above = 128u32.wrapping_sub(bits);
+    let mut numbers = [0; 8];
+    let mut rest = together;
+    for later in 0..7 {
+        let number = rest.wrapping_shl(above).wrapping_shr(above);
+        numbers[7 - later] = number;
+        rest = rest.wrapping_sub(number).wrapping_shr(bits);
+    }
+    numbers[0] = rest;
+    numbers
+}
+
+/// What a dekatherm of each class is worth in each piece of its arc. Class 0 stands for elements.
+#[derive(Drop)]
+pub(crate) struct Gains {
+    worths: Vec<Worth>,
+}
+
+/// What a dekatherm of a class gains in a piece: an element's below nothing and above its capacity bring it nearer to its
+/// bounds and further away, and a line's tenths have their class and, where they count, their weight.
+fn gained(class: u32, piece: i128, tenths: bool) -> Worth {
+    if class == 0 {
+        let bound = 1i128.wrapping_shl(8 * CLASS_BITS);
+        return Worth {
+            classes: bound.wrapping_mul(1i128.wrapping_sub(piece)),
+            spread: 0,
+        };
+    }
+    let later = 8u32.wrapping_sub(class);
+    let weight = if tenths { piece } else { 0 };
+    Worth {
+        classes: 1i128.wrapping_shl(later.wrapping_mul(CLASS_BITS)),
+        spread: 1i128
+            .wrapping_shl(later.wrapping_mul(SPREAD_BITS))
+            .wrapping_mul(weight)
+            .wrapping_neg(),
+    }
+}
+
+impl Gains {
+    /// The table of what the pieces gain.
+    pub(crate) fn of(alloc: Global, tenths: bool) -> Result<Gains, AllocError> {
+        let mut worths = Vec::with_capacity(alloc, CLASSES * PIECES)?;
+        for entry in 0..CLASSES * PIECES {
+            let class = (entry / PIECES) as u32;
+            let piece = (entry % PIECES) as i128;
+            worths.push(gained(class, piece, tenths))?;
+        }
+        Ok(Gains { worths })
+    }
+
+    /// What a dekatherm gains in a piece of an arc of this class.
+    #[inline]
+    pub(crate) fn gain(&self, class: u8, piece: u8) -> Worth {
+        match self.worths.get(class as usize * PIECES + piece as usize) {
+            Some(worth) => *worth,
+            None => Worth::NONE,
+        }
+    }
+}
