@@ -1,15 +1,16 @@
 -- The forms of the command line.
-use Rattle.std.proofs.Common.{◌≡◌, ◌∙◌, [], ◌∷◌, List, Bool, Option, Some, true, refl, sym, ap, codes, is_some, Result, Ok, Err, IfOk, IfErr, OnOk}
+use Rattle.std.proofs.Common.{drop, ◌≡◌, ◌∙◌, [], ◌∷◌, List, Bool, Option, Some, true, refl, sym, ap, codes, is_some, Result, Ok, Err, IfOk, IfErr, OnOk}
 use Rattle.std.proofs.lemmas.Option.{same_Some}
+use Rattle.std.proofs.lemmas.List.Elements.{All-nil, All-cons}
 use Rattle.clap.specs.Words.{Text, is_simple_and_free, takes, fault_of}
 use Rattle.clap.proofs.OnLiterals.{clap_on_literals}
 use Rattle.clap.specs.declared.error.kind.ErrorKind.TheVariants as kind
 use Rattle.gasday_part.specs.declared.command.Command.{Command}
 use Rattle.gasday_part.specs.declared.fault.UsageFault.{UsageFault}
 use Rattle.gasday_part.specs.declared.fault.UsageFault.TheVariants.{Help, Usage, OutOfMemory}
-use Rattle.gasday_part.specs.Meaning.{Meaning, CheckAllowed, CheckBest, CheckCut, Solve, Calendar, gasday, meaning_of, arguments}
-use Rattle.gasday_part.specs.Seen.{seen}
-use Rattle.gasday_part.specs.Told.{IsCommand, IsHelp, IsTold}
+use Rattle.gasday_part.specs.declared.command.Command.TheVariants.{CheckAllowed, CheckBest, CheckCut, Solve, Calendar}
+use Rattle.gasday_part.specs.Meaning.{gasday, meaning_of, arguments, forms, helps}
+use Rattle.gasday_part.specs.Told.{IsCommand, IsHelp, IsTold, TakesForms, TakesHelps}
 
 pub is_free_gasday : is_simple_and_free gasday ≡ true
 unfolding clap_on_literals
@@ -84,8 +85,8 @@ help_of_check words h = simp h
 -- ---- what is answered to such words
 
 -- words that clap takes and that mean m are answered by m
-pub is_command : (r : Result Command UsageFault) (meaning : Option Meaning) (taken : Bool) (m : Meaning) → taken ≡ true → meaning ≡ Some m
-    → IfOk r (λ c. meaning ≡ Some (seen c)) → IfErr r (λ e. taken ≡ true → is_some meaning ≡ true → e ≡ OutOfMemory)
+pub is_command : (r : Result Command UsageFault) (meaning : Option Command) (taken : Bool) (m : Command) → taken ≡ true → meaning ≡ Some m
+    → IfOk r (λ c. meaning ≡ Some c) → IfErr r (λ e. taken ≡ true → is_some meaning ≡ true → e ≡ OutOfMemory)
     → IsCommand m r
 is_command (Ok c) meaning taken m is_taken is ok err = same_Some _ _ (sym ok ∙ is)
 is_command (Err e) meaning taken m is_taken is ok err = err is_taken (ap is_some is)
@@ -97,3 +98,35 @@ is_help (Ok c) words asks faultless told = let bad : kind.DisplayHelp ∷ [] ≡
 is_help (Err (Help text)) words asks faultless told = tt
 is_help (Err (Usage text)) words asks faultless told = told.1 asks
 is_help (Err OutOfMemory) words asks faultless told = tt
+
+-- what clap makes of words holds of the answer to them
+pub record IsClaps (words : List Text) (r : Result Command UsageFault) : Type 0 where
+  pub meaning : IfOk r (λ c. meaning_of words ≡ Some c)
+  pub faultless : OnOk r (fault_of gasday words ≡ [])
+  pub taken : IfErr r (λ e. takes gasday words ≡ true → is_some (meaning_of words) ≡ true → e ≡ OutOfMemory)
+  pub faults : IfErr r (IsTold words)
+
+-- words of each form are answered by its command
+pub takes_forms : (words : List Text) (r : Result Command UsageFault) → IsClaps words r → TakesForms words r
+takes_forms words r by =
+    let P : List Text × Command → Type 0 = λ form. arguments words ≡ form.0 → IsCommand form.1 r in
+    let is : (m : Command) → takes gasday words ≡ true → meaning_of words ≡ Some m → IsCommand m r =
+    λ m taken meaning. is_command r (meaning_of words) (takes gasday words) m taken meaning by.meaning by.taken in
+    All-cons P _ (drop 1 forms) (λ h. is CheckAllowed (alone words h) (alone_is words h))
+    (All-cons P _ (drop 2 forms) (λ h. is CheckAllowed (check_allowed words h) (check_allowed_is words h))
+    (All-cons P _ (drop 3 forms) (λ h. is CheckBest (check_best words h) (check_best_is words h))
+    (All-cons P _ (drop 4 forms) (λ h. is CheckCut (check_cut words h) (check_cut_is words h))
+    (All-cons P _ (drop 5 forms) (λ h. is Solve (solve words h) (solve_is words h))
+    (All-cons P _ (drop 6 forms) (λ h. is Calendar (calendar words h) (calendar_is words h))
+    (All-nil P))))))
+
+-- words of each form that asks for help are answered by help
+pub takes_helps : (words : List Text) (r : Result Command UsageFault) → IsClaps words r → TakesHelps words r
+takes_helps words r by =
+    let P : List Text → Type 0 = λ form. arguments words ≡ form → IsHelp r in
+    let is : fault_of gasday words ≡ kind.DisplayHelp ∷ [] → IsHelp r = λ asks. is_help r words asks by.faultless by.faults in
+    All-cons P _ (drop 1 helps) (λ h. is (help words h))
+    (All-cons P _ (drop 2 helps) (λ h. is (help_of_check words h))
+    (All-cons P _ (drop 3 helps) (λ h. is (help_of_solve words h))
+    (All-cons P _ (drop 4 helps) (λ h. is (help_of_calendar words h))
+    (All-nil P))))

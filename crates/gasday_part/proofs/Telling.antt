@@ -7,10 +7,11 @@ use Rattle.clap.specs.declared.error.kind.ErrorKind.{ErrorKind}
 use Rattle.clap.specs.declared.error.kind.ErrorKind.TheVariants as kind
 use Rattle.gasday_part.specs.declared.fault.UsageFault.{UsageFault}
 use Rattle.gasday_part.specs.declared.fault.UsageFault.TheVariants.{Help, Usage, OutOfMemory}
-use Rattle.gasday_part.specs.Meaning.{Meaning, gasday, meaning_of}
+use Rattle.gasday_part.specs.declared.command.Command.{Command}
+use Rattle.gasday_part.specs.Meaning.{gasday, meaning_of}
 use Rattle.gasday_part.specs.Told.{IsTelling, IsTold, unless_at_fault}
 
-none_at_fault : (k : ErrorKind) (ks : Kinds) (meaning : Option Meaning) → IsAmong k ks → unless_at_fault ks meaning ≡ None
+none_at_fault : (k : ErrorKind) (ks : Kinds) (meaning : Option Command) → IsAmong k ks → unless_at_fault ks meaning ≡ None
 none_at_fault k [] meaning among = absurd among
 none_at_fault k (x ∷ xs) meaning among = refl
 

@@ -1,9 +1,9 @@
 -- Writing replies one after the other.
-use Rattle.std.proofs.Common.{◌≡◌, ℕ, ◌+◌, ◌<◌, ◌≤◌, List, [], ◌∷◌, ◌++◌, Option, take, length, get_or, refl, sym, ap, ◌∙◌, append_assoc, inl, inr}
+use Rattle.std.proofs.Common.{◌≡◌, ℕ, ◌+◌, ◌<◌, ◌≤◌, List, [], ◌∷◌, ◌++◌, Option, take, drop, length, get_or, refl, sym, ap, ◌∙◌, append_assoc, inl, inr}
 use Rattle.std.specs.Io.KnownBytes.{Appends}
 use Rattle.std.proofs.KnownBytes.{Appends-trans}
 use Rattle.std.proofs.lemmas.Grind.{flat_map-append}
-use Rattle.std.proofs.lemmas.List.{take_more, take_all, append-nil, take-append-le}
+use Rattle.std.proofs.lemmas.List.{take-append-drop, take_more, take_all, append-nil, take-append-le}
 use Rattle.std.proofs.Math.Seq.{take-append-add}
 use Rattle.gd_text.specs.declared.reply.Reply.{Reply}
 use Rattle.gd_text.specs.Lines.{line_of, lines_of}
@@ -32,31 +32,34 @@ part : (front some more : List ℕ) (n : ℕ) → n ≤ length some → take (le
 part front some more n le = take-append-add front (some ++ more) n ∙ ap (λ t. front ++ t) (take-append-le n some more le)
 
 -- memory ran out after the first i replies
-pub no_memory_after : (old mid new : Option (List ℕ)) (answer : Told) (i n : ℕ) → n ≤ length (lines_of (no_memory ∷ []))
+pub no_memory_after : (old mid new : Option (List ℕ)) (answer : Told) (i n : ℕ)
     → Appends old mid (lines_of (take i answer.replies)) → Appends mid new (take n (lines_of (no_memory ∷ []))) → Written old new 2 answer
-no_memory_after old mid new answer i n le before now =
-    let front = lines_of (take i answer.replies) in
-    let told = lines_of (no_memory ∷ []) in
-    let bytes : take (length front + n) (lines_of (take i answer.replies ++ no_memory ∷ [])) ≡ front ++ take n told =
-    ap (take (length front + n)) (lines-append (take i answer.replies) (no_memory ∷ []) ∙ ap (λ t. front ++ t) (sym (append-nil told))) ∙ part front told [] n le in
-    inr (i, length front + n, rw bytes (Appends-trans old mid new front (take n told) before now), refl)
+no_memory_after old mid new answer i n before now =
+    inr (inl (i, n, Appends-trans old mid new (lines_of (take i answer.replies)) (take n (lines_of (no_memory ∷ []))) before now, refl))
+
+-- all replies, the one at i apart
+at_reply : (replies : List Reply) (i : ℕ) (r : Reply) → i < length replies → r ≡ get_or replies i r
+    → lines_of replies ≡ lines_of (take i replies) ++ (line_of r ++ lines_of (drop (i + 1) replies))
+at_reply replies i r lt is =
+    ap lines_of (sym (take-append-drop (i + 1) replies)) ∙ lines-append (take (i + 1) replies) (drop (i + 1) replies)
+    ∙ ap (λ t. t ++ lines_of (drop (i + 1) replies)) (lines_more replies i r lt is) ∙ append_assoc (lines_of (take i replies)) (line_of r) (lines_of (drop (i + 1) replies))
 
 -- the writer failed in the reply at i
 pub stops_in : (old mid new : Option (List ℕ)) (answer : Told) (i n : ℕ) (r : Reply) → i < length answer.replies → r ≡ get_or answer.replies i r → n ≤ length (line_of r)
     → Appends old mid (lines_of (take i answer.replies)) → Appends mid new (take n (line_of r)) → Written old new 2 answer
 stops_in old mid new answer i n r lt is le before now =
     let front = lines_of (take i answer.replies) in
-    let more = lines_of (no_memory ∷ []) in
-    let bytes : take (length front + n) (lines_of (take (i + 1) answer.replies ++ no_memory ∷ [])) ≡ front ++ take n (line_of r) =
-    ap (take (length front + n)) (lines-append (take (i + 1) answer.replies) (no_memory ∷ []) ∙ ap (λ t. t ++ more) (lines_more answer.replies i r lt is) ∙ append_assoc front (line_of r) more) ∙ part front (line_of r) more n le in
-    inr (i + 1, length front + n, rw bytes (Appends-trans old mid new front (take n (line_of r)) before now), refl)
+    let more = lines_of (drop (i + 1) answer.replies) in
+    let bytes : take (length front + n) (lines_of answer.replies) ≡ front ++ take n (line_of r) =
+    ap (take (length front + n)) (at_reply answer.replies i r lt is) ∙ part front (line_of r) more n le in
+    inr (inr (length front + n, rw bytes (Appends-trans old mid new front (take n (line_of r)) before now), refl))
 
 pub is_done : (old new : Option (List ℕ)) (answer : Told) (i : ℕ) → length answer.replies ≤ i → Appends old new (lines_of (take i answer.replies)) → Written old new answer.status answer
 is_done old new answer i le told = inl (rw (take_all i answer.replies le) at told, refl)
 
 -- memory ran out before there was any reply
-pub told_none : (k : Command) (known old new : Option (List ℕ)) (n : ℕ) → n ≤ length (lines_of (no_memory ∷ [])) → Appends old new (take n (lines_of (no_memory ∷ []))) → IfSome known (λ text. Answers k text old new 2)
-told_none k None old new n le now = tt
-told_none k (Some text) old new n le now =
+pub told_none : (k : Command) (known old new : Option (List ℕ)) (n : ℕ) → Appends old new (take n (lines_of (no_memory ∷ []))) → IfSome known (λ text. Answers k text old new 2)
+told_none k None old new n now = tt
+told_none k (Some text) old new n now =
     let a = fault_answer fault.ReadFailed in
-    (a, inr (inr refl), no_memory_after old old new a 0 n le (Appends-nil old) now)
+    (a, inr (inr refl), no_memory_after old old new a 0 n (Appends-nil old) now)

@@ -20,7 +20,7 @@ use Rattle.gd_certificate.specs.declared.cut.CutFault.{CutFault}
 use Rattle.gd_question.specs.Posed.{Posed}
 use Rattle.gd_schedule.specs.Exact.{Explains}
 use Rattle.gd_schedule.specs.declared.Broken.{Broken}
-use Rattle.gd_text_part.specs.Texts.{rows_of, IsWithin, HasManyBytes, HasManyRows}
+use Rattle.gd_text_part.specs.Texts.{rows_of, IsWithin, IsTooLong, HasManyBytes, HasManyRows}
 use Rattle.gd_text_part.specs.declared.row.Row.{Row}
 use Rattle.gd_text_part.specs.declared.fault.RowFault.{RowFault}
 use Rattle.gd_text_part.specs.declared.fault.TextFault.{TextFault}
@@ -150,6 +150,12 @@ AnswersRows command.Calendar rows a = TellsCalendar (length rows + 1) (day_of ro
 abbrev pub AnswersText : Command → Result (List Row) RowFault → Told → Type 0
 AnswersText k (Ok rows) a = AnswersRows k rows a
 AnswersText k (Err f) a = a ≡ fault_answer (fault.Row f.row f.cause)
+
+-- What a command answers to a text in memory: what its rows say, where it is within its limits, or that it is too long.
+abbrev pub AnswersBytes : Command → List ℕ → Told → Type 0
+AnswersBytes k text a =
+    (IsWithin text × AnswersText k (rows_of (form_of k) text) a)
+    ⊎ (IsTooLong text × (a ≡ fault_answer fault.TooLong))
 
 -- What a command may answer to a text: what its rows say, where it is within its limits; that it is too long, where it is; or that it could not be read.
 abbrev pub MayAnswer : Command → List ℕ → Told → Type 0

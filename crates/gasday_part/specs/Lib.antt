@@ -1,5 +1,4 @@
 pub mod Meaning
-pub mod Seen
 pub mod Told
 pub mod Answers
 pub mod AnswerSeen

@@ -11,12 +11,14 @@ use Rattle.gasday_part.specs.Answers.{Told, MayAnswer}
 abbrev pub no_memory : Reply
 no_memory = reply.InputFault input.OutOfMemory
 
--- All of the answer was written. Or memory ran out or the writer failed, and what was written are bytes at the front of
--- some of the replies, the first ones, and the row that tells that memory ran out.
+-- What was written of an answer, and the exit status. All of it. Or memory ran out, and what was written are the first of
+-- its rows, whole, and bytes at the front of the row that tells that memory ran out. Or the writer failed, and what was
+-- written are bytes at the front of the answer.
 abbrev pub Written : Option (List ℕ) → Option (List ℕ) → ℕ → Told → Type 0
 Written old new status a =
     (Appends old new (lines_of a.replies) × (status ≡ a.status))
-    ⊎ ((n m : ℕ) × Appends old new (take m (lines_of (take n a.replies ++ no_memory ∷ []))) × (status ≡ 2))
+    ⊎ ((n m : ℕ) × Appends old new (lines_of (take n a.replies) ++ take m (lines_of (no_memory ∷ []))) × (status ≡ 2))
+    ⊎ ((m : ℕ) × Appends old new (take m (lines_of a.replies)) × (status ≡ 2))
 
 -- what a run of a command over a text writes: an answer to it, and nothing else
 abbrev pub Answers : Command → List ℕ → Option (List ℕ) → Option (List ℕ) → ℕ → Type 0

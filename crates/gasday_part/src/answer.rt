@@ -10,15 +10,15 @@ use crate::command::Command;
 use crate::day::tell_day;
 use crate::solve::tell_solved;
 use gd_text::{Asked, InputFault, Reply, allowed_replies, asked_of, broken_reply, day_of};
-use gd_text_part::{Cause, Row, TextFault, read_all};
+use gd_text_part::{Cause, Row, TextFault, read_bytes, rows_in};
 use std::alloc::{AllocError, Global};
 use std::io::Read;
 
 /// The rows that answer a text, and the exit status that goes with them.
 #[derive(Drop)]
-pub(crate) struct Answer {
-    pub(crate) replies: Vec<Reply>,
-    pub(crate) status: u8,
+pub struct Answer {
+    pub replies: Vec<Reply>,
+    pub status: u8,
 }
 
 /// An answer of one row.
@@ -43,7 +43,7 @@ pub(crate) fn of_fault(alloc: Global, fault: TextFault) -> Result<Answer, AllocE
     of_one(alloc, reply, 2)
 }
 
-// The head of a text is missing, which is told at one row past the last.
+/// The head of a text is missing, which is told at one row past the last.
 fn missing(row: u64) -> TextFault
     ensures { result ≡ TextFault.Row row Cause.Missing }
 {
@@ -53,7 +53,7 @@ fn missing(row: u64) -> TextFault
     }
 }
 
-// Whether the schedule is allowed, with its class totals, or what is first wrong with it.
+/// Whether the schedule is allowed, with its class totals, or what is first wrong with it.
 fn check_allowed(alloc: Global, asked: &Asked) -> Result<Answer, AllocError>
     ensures { IfOk result (λ a. spec.ChecksAllowed asked.now.question asked.now.schedule (answer_seen a)) }
 {
@@ -69,7 +69,7 @@ fn check_allowed(alloc: Global, asked: &Asked) -> Result<Answer, AllocError>
     }
 }
 
-// What a command answers to the rows of its text.
+/// What a command answers to the rows of its text.
 fn answer_to_rows(alloc: Global, command: Command, rows: &[Row]) -> Result<Answer, AllocError>
     ensures { IfOk result (λ a. spec.AnswersRows command rows.now (answer_seen a)) }
 {
@@ -92,7 +92,20 @@ fn answer_to_rows(alloc: Global, command: Command, rows: &[Row]) -> Result<Answe
     }
 }
 
-/// What a command answers to all that a reader has left.
+/// What a command answers to the bytes of a text. The only error is want of memory.
+///
+/// This is all that a command does between reading and printing.
+pub fn answer_of(alloc: Global, command: Command, text: &[u8]) -> Result<Answer, AllocError>
+    ensures { IfOk result (λ a. spec.AnswersBytes command text.now (answer_seen a)) }
+{
+    match rows_in(alloc, command.form(), text) {
+        Ok(rows) => answer_to_rows(alloc, command, rows.as_slice()),
+        Err(TextFault::OutOfMemory) => Err(AllocError),
+        Err(fault) => of_fault(alloc, fault),
+    }
+}
+
+/// What a command answers to all that a reader has left: to its bytes, or to the fault of reading them.
 pub(crate) fn answer_to<R: Read>(
     alloc: Global,
     command: Command,
@@ -100,8 +113,8 @@ pub(crate) fn answer_to<R: Read>(
 ) -> Result<Answer, AllocError>
     ensures { IfSome (R.remaining reader.old) (λ text. IfOk result (λ a. spec.MayAnswer command text (answer_seen a))) }
 {
-    match read_all(alloc, command.form(), reader) {
-        Ok(rows) => answer_to_rows(alloc, command, rows.as_slice()),
+    match read_bytes(alloc, reader) {
+        Ok(text) => answer_of(alloc, command, text.as_slice()),
         Err(TextFault::OutOfMemory) => Err(AllocError),
         Err(fault) => of_fault(alloc, fault),
     }

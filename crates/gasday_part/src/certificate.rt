@@ -14,7 +14,7 @@ use gd_text::{Asked, Reply, best_replies, cut_fault_reply, fault_reply, members_
 use gd_text_part::{Row, TextFault};
 use std::alloc::{AllocError, Global};
 
-// Whether prices show the schedule best.
+/// Whether prices show the schedule best.
 fn check_prices(alloc: Global, asked: &Asked, prices: &Prices<Tariff>) -> Result<Answer, AllocError>
     ensures { IfOk result (λ a. spec.ChecksPrices asked.now.question asked.now.schedule prices.now (answer_seen a)) }
 {
@@ -44,7 +44,7 @@ pub(crate) fn tell_best(alloc: Global, asked: &Asked, rows: &[Row]) -> Result<An
     }
 }
 
-// Whether a set shows that no schedule is allowed.
+/// Whether a set shows that no schedule is allowed.
 fn check_set(alloc: Global, question: &Question, cut: &Cut) -> Result<Answer, AllocError>
     ensures { IfOk result (λ a. spec.ChecksSet question.now cut.now (answer_seen a)) }
 {

@@ -4,7 +4,6 @@ ghost use Rattle.std.specs.Prelude.{◌≡◌, option_map};
 ghost use Rattle.clap.specs.Words.{subcommand_rows_of};
 ghost use Rattle.gasday_part.specs.Answers.{form_of};
 ghost use Rattle.gasday_part.specs.Meaning as spec;
-ghost use Rattle.gasday_part.specs.Seen.{seen};
 
 use clap::ArgMatches;
 use gd_text_part::Form;
@@ -39,9 +38,9 @@ impl Command {
     }
 }
 
-// The check that the word after `check` names.
+/// The check that the word after `check` names.
 fn check_named(word: Option<&str>) -> Option<Command>
-    ensures { option_map seen result ≡ spec.check_named (option_map (λ w. w.now) word.entry) }
+    ensures { result ≡ spec.check_named (option_map (λ w. w.now) word.entry) }
 {
     match word {
         Some("allowed") => Some(Command::CheckAllowed),
@@ -51,9 +50,9 @@ fn check_named(word: Option<&str>) -> Option<Command>
     }
 }
 
-// The command of a subcommand's name and of what it was given.
+/// The command of a subcommand's name and of what it was given.
 fn command_from(name: &str, what: Option<&str>) -> Option<Command>
-    ensures { option_map seen result
+    ensures { result
         ≡ spec.command_from name.now (option_map (λ w. w.now) what.entry) }
 {
     match name {
@@ -66,7 +65,7 @@ fn command_from(name: &str, what: Option<&str>) -> Option<Command>
 
 /// The command that the matches name. Where they name no subcommand it is `check allowed`.
 pub(crate) fn command_in(matches: &ArgMatches<'_>) -> Option<Command>
-    ensures { option_map seen result ≡ spec.command_in (subcommand_rows_of matches.now) }
+    ensures { result ≡ spec.command_in (subcommand_rows_of matches.now) }
 {
     let Some((name, inner)) = matches.subcommand() else {
         return Some(Command::CheckAllowed);

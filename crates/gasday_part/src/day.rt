@@ -12,7 +12,7 @@ use gd_text_part::{CivilDate, ZoneText};
 use jiff::tz::TimeZone;
 use std::alloc::{AllocError, Global};
 
-// The calendar that a zone gives a gas day.
+/// The calendar that a zone gives a gas day.
 fn tell_zone(alloc: Global, day: GasDay, zone: &TimeZone<'_>) -> Result<Answer, AllocError>
     ensures { IfOk result (λ a. spec.TellsZone (plain_zone zone.now) day (answer_seen a)) }
 {

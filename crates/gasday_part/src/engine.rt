@@ -12,7 +12,7 @@ use gd_text_part::write_bytes;
 use std::alloc::Global;
 use std::io::{Read, Write};
 
-// Prints replies in order. Answers the status, or 2 where not all was written.
+/// Prints replies in order. Answers the status, or 2 where not all was written.
 fn tell<W: Write>(alloc: Global, writer: &mut W, replies: &[Reply], status: u8) -> u8
     ensures { Written (W.contents writer.old) (W.contents writer.new) result (record { replies = replies.now; status = status }) }
 {
@@ -27,7 +27,7 @@ fn tell<W: Write>(alloc: Global, writer: &mut W, replies: &[Reply], status: u8) 
     status
 }
 
-// Tells that memory ran out, which needs none.
+/// Tells that memory ran out, which needs none.
 fn tell_no_memory<W: Write>(writer: &mut W) -> u8
     ensures front { (n : ℕ) × (n ≤ length (lines_of (no_memory ∷ []))) × Appends (W.contents writer.old) (W.contents writer.new) (take n (lines_of (no_memory ∷ []))) }
     ensures status { result ≡ 2 }

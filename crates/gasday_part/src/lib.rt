@@ -16,12 +16,8 @@ mod line;
 mod solve;
 mod words;
 
+pub use answer::{Answer, answer_of};
 pub use command::Command;
 pub use engine::run;
 pub use fault::UsageFault;
 pub use words::command_of;
-
-#[cfg(test)]
-mod run_tests;
-#[cfg(test)]
-mod tests;

@@ -37,8 +37,8 @@ const AFTER_HELP_OF_CHECK: &str = "Examples:
   gasday check best < examples/two-lines-priced.csv
   gasday check cut < examples/pool-cut.csv";
 
-// `check WHAT`. clap takes any WHAT: a list of possible values would put references into the meaning
-// of the line, so the program tells the words apart itself.
+/// `check WHAT`. clap takes any WHAT: a list of possible values would put references into the meaning
+/// of the line, so the program tells the words apart itself.
 fn check<'a>(alloc: Global) -> Result<CommandLine<'a>, AllocError>
     ensures app { IfOk result (λ c. app_of c ≡ spec.check) }
     ensures local { IfOk result (λ c. (out-Command c).has_globals ≡ false) }
@@ -74,7 +74,7 @@ behind the question's own, and give all to 'gasday check best'; or the inside ro
 Example:
   gasday solve < examples/solve/question.csv";
 
-// `solve`, which takes no words.
+/// `solve`, which takes no words.
 fn solve<'a>(alloc: Global) -> CommandLine<'a>
     ensures app { app_of result ≡ spec.solve }
     ensures local { (out-Command result).has_globals ≡ false }
@@ -100,7 +100,7 @@ Example:
 A moment by the clock of the zone:
   TZ='CST6CDT,M3.2.0,M11.1.0' date -d @1772910900";
 
-// `calendar`, which takes no words.
+/// `calendar`, which takes no words.
 fn calendar<'a>(alloc: Global) -> CommandLine<'a>
     ensures app { app_of result ≡ spec.calendar }
     ensures local { (out-Command result).has_globals ≡ false }
@@ -110,7 +110,7 @@ fn calendar<'a>(alloc: Global) -> CommandLine<'a>
         .after_help(AFTER_HELP_OF_CALENDAR)
 }
 
-// The program's name, before it has commands.
+/// The program's name, before it has commands.
 fn bare<'a>(alloc: Global) -> CommandLine<'a>
     ensures { app_of result ≡ spec.bare }
 {

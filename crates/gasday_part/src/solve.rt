@@ -18,7 +18,7 @@ use gd_solver::{Answer as Solution, solve};
 use gd_text::{cut_replies, solved_replies};
 use std::alloc::{AllocError, Global};
 
-// A best schedule, with the prices that show it best.
+/// A best schedule, with the prices that show it best.
 fn tell_schedule(
     alloc: Global,
     question: &Question,
@@ -34,7 +34,7 @@ fn tell_schedule(
     Ok(Answer { replies, status: 0 })
 }
 
-// A cut, which shows that no schedule is allowed.
+/// A cut, which shows that no schedule is allowed.
 fn tell_impossible(alloc: Global, question: &Question, cut: &Cut) -> Result<Answer, AllocError>
     requires shaped { IsShaped question.now.pipeline cut.now }
     requires cuts { Cuts question.now cut.now }

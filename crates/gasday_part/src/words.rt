@@ -1,10 +1,9 @@
 //! From words to a command.
 
-ghost use Rattle.std.specs.Prelude.{◌≡◌, ◌∷◌, [], map, codes, Some, true, is_some, IfOk, IfErr, OnOk};
+ghost use Rattle.std.specs.Prelude.{◌≡◌, [], map, Some, true, is_some, IfOk, IfErr, OnOk};
 ghost use Rattle.clap.specs.Words.{takes, fault_of as kinds_of_fault};
 ghost use Rattle.gasday_part.specs.Meaning as spec;
-ghost use Rattle.gasday_part.specs.Seen.{seen};
-ghost use Rattle.gasday_part.specs.Told.{IsTold, IsCommand, IsHelp};
+ghost use Rattle.gasday_part.specs.Told.{IsTold, TakesForms, TakesHelps};
 
 use crate::command::{Command, command_in, word_after_check};
 use crate::fault::{UsageFault, fault_of, unknown_check};
@@ -12,10 +11,10 @@ use crate::line::gasday;
 use std::alloc::Global;
 use std::convert::AsStr;
 
-// The command that the words name, by `clap`.
+/// The command that the words name, by `clap`.
 fn command_by_clap<'a, S: AsStr>(alloc: Global, words: &'a [S]) -> Result<Command, UsageFault>
     ensures meaning { IfOk result (λ c.
-        spec.meaning_of (map S.text words.now) ≡ Some (seen c)) }
+        spec.meaning_of (map S.text words.now) ≡ Some c) }
     ensures faultless { OnOk result (kinds_of_fault spec.gasday (map S.text words.now) ≡ []) }
     ensures taken { IfErr result (λ e. takes spec.gasday (map S.text words.now) ≡ true
         → is_some (spec.meaning_of (map S.text words.now)) ≡ true → e ≡ UsageFault.OutOfMemory) }
@@ -41,7 +40,7 @@ fn command_by_clap<'a, S: AsStr>(alloc: Global, words: &'a [S]) -> Result<Comman
 pub fn command_of<'a, S: AsStr>(alloc: Global, words: &'a [S]) -> Result<Command, UsageFault>
     // A command is what the words mean, and comes only where clap finds no fault in them.
     ensures meaning { IfOk result (λ c.
-        spec.meaning_of (map S.text words.now) ≡ Some (seen c)) }
+        spec.meaning_of (map S.text words.now) ≡ Some c) }
     ensures faultless { OnOk result (kinds_of_fault spec.gasday (map S.text words.now) ≡ []) }
     // Where clap takes the words and they mean a command, only memory can be short.
     ensures taken { IfErr result (λ e. takes spec.gasday (map S.text words.now) ≡ true
@@ -50,25 +49,8 @@ pub fn command_of<'a, S: AsStr>(alloc: Global, words: &'a [S]) -> Result<Command
     ensures faults { IfErr result (IsTold (map S.text words.now)) }
 
     // The forms of the program.
-    ensures alone { spec.arguments (map S.text words.now) ≡ []
-        → IsCommand spec.CheckAllowed result }
-    ensures check_allowed { spec.arguments (map S.text words.now)
-        ≡ codes "check" ∷ codes "allowed" ∷ [] → IsCommand spec.CheckAllowed result }
-    ensures check_best { spec.arguments (map S.text words.now)
-        ≡ codes "check" ∷ codes "best" ∷ [] → IsCommand spec.CheckBest result }
-    ensures check_cut { spec.arguments (map S.text words.now)
-        ≡ codes "check" ∷ codes "cut" ∷ [] → IsCommand spec.CheckCut result }
-    ensures solve { spec.arguments (map S.text words.now) ≡ codes "solve" ∷ []
-        → IsCommand spec.Solve result }
-    ensures calendar { spec.arguments (map S.text words.now) ≡ codes "calendar" ∷ []
-        → IsCommand spec.Calendar result }
-    ensures help { spec.arguments (map S.text words.now) ≡ codes "--help" ∷ [] → IsHelp result }
-    ensures help_of_check { spec.arguments (map S.text words.now)
-        ≡ codes "check" ∷ codes "--help" ∷ [] → IsHelp result }
-    ensures help_of_solve { spec.arguments (map S.text words.now)
-        ≡ codes "solve" ∷ codes "--help" ∷ [] → IsHelp result }
-    ensures help_of_calendar { spec.arguments (map S.text words.now)
-        ≡ codes "calendar" ∷ codes "--help" ∷ [] → IsHelp result }
+    ensures forms { TakesForms (map S.text words.now) result }
+    ensures helps { TakesHelps (map S.text words.now) result }
 {
     command_by_clap(alloc, words)
 }

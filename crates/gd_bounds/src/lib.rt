@@ -8,9 +8,9 @@ ghost use Rattle.gd_rules.specs.Bounds as rules;
 
 use gd_units::{Class, CycleNo, Dth};
 
-/// What flows of a quantity in some of the hours that it has left, in whole dekatherms.
+/// What flows of a quantity in some of the hours that it has left, in whole dekatherms (own: rounded down).
 fn flowed(quantity: u64, hours: u8, rest: u8) -> u64
-    requires few { quantity ≤ 1_000_000_000 }
+    requires few { quantity ≤ Dth.MAX }
     requires some { 1 ≤ rest }
     requires within { hours ≤ rest }
     ensures is { result ≡ rules.flowed quantity hours rest }
@@ -21,7 +21,7 @@ fn flowed(quantity: u64, hours: u8, rest: u8) -> u64
 
 /// The quantity of this number.
 fn dekatherms(value: u64) -> Dth
-    requires { value ≤ 1_000_000_000 }
+    requires { value ≤ Dth.MAX }
     ensures { result ≡ value }
 {
     match Dth::new(value) {

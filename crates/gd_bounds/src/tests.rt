@@ -67,12 +67,11 @@ fn confirmed_by_both_ends(rt: HostRuntime) {
 }
 
 // Whether a line of this class is protected in each of the cycles.
-fn protection(rt: &impl Abort, class: u8) -> [bool; 5] {
+fn protection(rt: &impl Abort, class: u8) -> [bool; CycleNo::COUNT] {
     let class = Class::new(class).expect(rt, "a class");
-    let mut told = [false; 5];
-    for at in 0..5u8 {
-        let cycle = CycleNo::new(at + 1).expect(rt, "a cycle");
-        told[usize::from(at)] = protected(cycle, class);
+    let mut told = [false; CycleNo::COUNT];
+    for at in 0..CycleNo::COUNT {
+        told[at] = protected(CycleNo::ALL[at], class);
     }
     told
 }

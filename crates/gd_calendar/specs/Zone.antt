@@ -4,6 +4,7 @@ use Rattle.jiff.specs.Words.{IsHms, ambiguous_at, epoch_day, instant_of}
 use Rattle.jiff.specs.Types.{Date, DateTime, TimeZone, AmbiguousOffset, Unambiguous, Gap, Fold}
 use Rattle.gd_rules.specs.GasDay.{Day, Time, civil_times}
 use Rattle.gd_rules.specs.GasDay.Day.{Before, Same, After}
+use Rattle.gd_rules.specs.Limits.{latest_moment}
 use Rattle.gd_calendar.specs.Calendar.{IsCalendar}
 
 -- The seconds since 1970-01-01T00:00:00Z at which a clock with these offsets shows the date and time, where it does so exactly once.
@@ -12,9 +13,9 @@ once civil (Unambiguous offset) = Some (int_div (instant_of civil offset) (pos 1
 once civil (Gap before after) = None
 once civil (Fold before after) = None
 
--- The zone's clock shows the date and time at this moment and at no other, and it lies between 0 and 4,200,000,000 seconds.
+-- The zone's clock shows the date and time at this moment and at no other, and no moment is later than the latest one.
 abbrev pub IsMomentOf : TimeZone → DateTime → ℕ → Type 0
-IsMomentOf zone civil moment = (once civil (ambiguous_at zone civil) ≡ Some (pos moment)) × (moment ≤ 4_200_000_000)
+IsMomentOf zone civil moment = (once civil (ambiguous_at zone civil) ≡ Some (pos moment)) × (moment ≤ latest_moment)
 
 -- How many days after the gas day.
 abbrev pub shift : Day → ℤ

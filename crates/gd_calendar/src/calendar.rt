@@ -1,4 +1,6 @@
-ghost use Rattle.std.specs.Prelude.{◌≡◌, ℕ, ◌+◌, ◌*◌, ◌<◌, ◌≤◌, ◌↔◌, IsTrue, Err, IfOk, length};
+//! Calendars: when the marks of a gas day's cycles fall due.
+
+ghost use Rattle.std.specs.Prelude.{◌≡◌, ℕ, ◌+◌, ◌*◌, ◌<◌, ◌≤◌, ◌↔◌, IsTrue, Err, IfOk, Some, length};
 ghost use Rattle.jiff.specs.Words.{plain_zone};
 ghost use Rattle.gd_rules.specs.GasDay as gas_day;
 ghost use Rattle.gd_rules.specs.GasDay.Mark.{Received, Confirmed, Effective};
@@ -6,12 +8,15 @@ ghost use Rattle.gd_calendar.specs.Calendar as spec;
 ghost use Rattle.gd_calendar.specs.Calendar.{due, received_times, IsCalendar};
 ghost use Rattle.gd_calendar.specs.Zone.{IsCalendarOf, IsBadZone};
 ghost use Rattle.gd_calendar.specs.Mark.{mark_of};
+ghost use Rattle.gd_calendar.specs.Names.{calendar_fault_name};
+ghost use Rattle.gd_calendar.specs.declared.calendar.CalendarFault.TheVariants.{OutOfMemory};
 
 use crate::GasDay;
 use crate::clock::moments_of;
 use gd_units::{CycleNo, Moment};
 use jiff::tz::TimeZone;
 use std::alloc::{AllocError, Global};
+use std::fmt;
 use std::marker::Model;
 
 /// What falls due in a cycle (NAESB WGQ 1.3.2).
@@ -31,7 +36,7 @@ pub enum Mark {
     Effective,
 }
 
-/// Why a zone gives a gas day no calendar.
+/// Why a zone gives a gas day no calendar. It is printed by its name.
 #[derive(Clone, Copy, Debug, PartialEq, Eq, Drop)]
 pub enum CalendarFault {
     /// A civil time of the gas day is ambiguous or missing in the zone or lies outside what a `Moment` holds, or the
@@ -40,6 +45,25 @@ pub enum CalendarFault {
     BadZone,
     /// Memory was refused.
     OutOfMemory,
+}
+
+impl From<AllocError> for CalendarFault {
+    ghost from_gives = { λ _ e. e ≡ OutOfMemory };
+
+    fn from(_e: AllocError) -> CalendarFault {
+        CalendarFault::OutOfMemory
+    }
+}
+
+impl fmt::Display for CalendarFault {
+    ghost output = { λ f. Some (calendar_fault_name f) };
+
+    fn fmt<W: fmt::Write>(&self, f: &mut fmt::Formatter<W>) -> fmt::Result {
+        match self {
+            CalendarFault::BadZone => f.write_str("BadZone"),
+            CalendarFault::OutOfMemory => f.write_str("OutOfMemory"),
+        }
+    }
 }
 
 /// When the marks of a gas day's five cycles fall due (NAESB WGQ 1.3.2).
@@ -62,8 +86,8 @@ impl Model for Calendar {
     ghost invariant = { λ c. IsCalendar c.moments.items };
 }
 
-// Where the marks of the cycles stand among the civil times, from 0.
-const PLACES: [[usize; 6]; 5] = [
+/// Where the marks of the cycles stand among the civil times, from 0.
+const PLACES: [[usize; 6]; CycleNo::COUNT] = [
     [0, 1, 2, 3, 4, 10],
     [5, 6, 7, 8, 9, 10],
     [11, 12, 13, 14, 15, 16],
@@ -71,22 +95,22 @@ const PLACES: [[usize; 6]; 5] = [
     [23, 24, 25, 26, 27, 27],
 ];
 
-// Where the gas day starts.
+/// Where the gas day starts.
 const START: usize = 10;
 
-// Where it ends.
+/// Where it ends.
 const FINISH: usize = 28;
 
-// Where Intraday 1 takes effect.
+/// Where Intraday 1 takes effect.
 const INTRADAY_1: usize = 16;
 
-// Where Intraday 2 takes effect.
+/// Where Intraday 2 takes effect.
 const INTRADAY_2: usize = 22;
 
-// Where Intraday 3 takes effect.
+/// Where Intraday 3 takes effect.
 const INTRADAY_3: usize = 27;
 
-// Where the mark of the cycle stands.
+/// Where the mark of the cycle stands.
 fn place(cycle: CycleNo, mark: Mark) -> usize
     ensures is { result ≡ gas_day.place (gas_day.civil_time cycle (mark_of mark)) }
     ensures bound { result < 29 }
@@ -103,22 +127,22 @@ fn place(cycle: CycleNo, mark: Mark) -> usize
     }
 }
 
-// The seconds of the moment.
+/// The seconds of the moment.
 fn seconds(moment: Moment) -> u64
     ensures is { result ≡ moment }
-    ensures bound { result ≤ 4_200_000_000 }
+    ensures bound { result ≤ Moment.MAX }
 {
     moment.seconds() as u64
 }
 
-// Whether the second moment lies this many hours after the first.
+/// Whether the second moment lies this many hours after the first.
 fn is_hours_after(first: Moment, second: Moment, hours: u8) -> bool
     ensures { IsTrue result ↔ (second ≡ first + 3600 * hours) }
 {
     seconds(second) == seconds(first) + 3600 * u64::from(hours)
 }
 
-// Whether each moment lies before the next.
+/// Whether each moment lies before the next.
 fn rises(moments: &[Moment]) -> bool
     ensures { IsTrue result ↔ spec.Rises moments.now }
 {
@@ -130,7 +154,7 @@ fn rises(moments: &[Moment]) -> bool
     true
 }
 
-// Whether the Intraday cycles take effect 5, 9 and 13 hours after the start.
+/// Whether the Intraday cycles take effect 5, 9 and 13 hours after the start.
 fn is_elapsed(moments: &[Moment]) -> bool
     requires { length moments.now ≡ 29 }
     ensures { IsTrue result ↔ spec.IsElapsed moments.now }
@@ -145,7 +169,7 @@ fn is_elapsed(moments: &[Moment]) -> bool
     is_hours_after(start, moments[INTRADAY_3], 13)
 }
 
-// Whether the gas day has 23, 24 or 25 hours.
+/// Whether the gas day has 23, 24 or 25 hours.
 fn has_length(moments: &[Moment]) -> bool
     requires { length moments.now ≡ 29 }
     ensures { IsTrue result ↔ spec.HasLength moments.now }
@@ -160,7 +184,7 @@ fn has_length(moments: &[Moment]) -> bool
     false
 }
 
-// Whether these are the moments of a calendar.
+/// Whether these are the moments of a calendar.
 fn is_calendar(moments: &[Moment]) -> bool
     requires { length moments.now ≡ 29 }
     ensures { IsTrue result ↔ IsCalendar moments.now }
@@ -178,7 +202,8 @@ impl Calendar {
     /// The calendar that the zone gives the gas day.
     pub fn new(alloc: Global, day: GasDay, zone: &TimeZone<'_>) -> Result<Calendar, CalendarFault>
         ensures ok { IfOk result (IsCalendarOf (plain_zone zone.now) day) }
-        ensures bad_zone { (result ≡ Err CalendarFault.BadZone) ↔ IsBadZone (plain_zone zone.now) day }
+        ensures bad_zone { (result ≡ Err CalendarFault.BadZone)
+            ↔ IsBadZone (plain_zone zone.now) day }
     {
         let Some(moments) = moments_of(day.date(), zone) else {
             return Err(CalendarFault::BadZone);
@@ -186,10 +211,8 @@ impl Calendar {
         if !is_calendar(&moments) {
             return Err(CalendarFault::BadZone);
         }
-        match Vec::from_slice(alloc, &moments) {
-            Ok(moments) => Ok(Calendar { moments }),
-            Err(_) => Err(CalendarFault::OutOfMemory),
-        }
+        let moments = Vec::from_slice(alloc, &moments)?;
+        Ok(Calendar { moments })
     }
 
     /// Another calendar of the same moments. The only error is want of memory.
@@ -203,9 +226,12 @@ impl Calendar {
     /// What holds of every calendar.
     pub fn known(&self)
         ensures calendar { IsCalendar self.now }
-        ensures confirmed_after_received { (cycle : ℕ) → 1 ≤ cycle → cycle ≤ 5 → due self.now cycle Received < due self.now cycle Confirmed }
-        ensures received_rise { (cycle : ℕ) → 1 ≤ cycle → cycle < 5 → due self.now cycle Received < due self.now (cycle + 1) Received }
-        ensures elapsed_whole { (cycle : ℕ) → 1 ≤ cycle → cycle ≤ 5 → due self.now cycle Effective ≡ spec.start self.now + 3600 * gas_day.elapsed cycle }
+        ensures confirmed_after_received { (cycle : ℕ) → 1 ≤ cycle → cycle ≤ 5
+            → due self.now cycle Received < due self.now cycle Confirmed }
+        ensures received_rise { (cycle : ℕ) → 1 ≤ cycle → cycle < 5
+            → due self.now cycle Received < due self.now (cycle + 1) Received }
+        ensures elapsed_whole { (cycle : ℕ) → 1 ≤ cycle → cycle ≤ 5
+            → due self.now cycle Effective ≡ spec.start self.now + 3600 * gas_day.elapsed cycle }
     {
         let _ = &self.moments;
     }
@@ -221,8 +247,7 @@ impl Calendar {
     pub fn cycle_of(&self, moment: Moment) -> Option<CycleNo>
         ensures { result ≡ gas_day.cycle_of (received_times self.now) moment }
     {
-        for number in 1..6 {
-            let cycle = CycleNo::new(number)?;
+        for cycle in CycleNo::ALL {
             if moment <= self.time(cycle, Mark::Received) {
                 return Some(cycle);
             }

@@ -1,3 +1,5 @@
+//! The clock of a time zone: the moments of civil times.
+
 ghost use Rattle.std.specs.Prelude.{ℕ, List, pos, MatchOption};
 ghost use Rattle.jiff.specs.Words.{plain_zone, IsHms};
 ghost use Rattle.gd_calendar.specs.Zone.{IsBeside, IsCivil, IsMomentOf, AreMoments};
@@ -54,9 +56,10 @@ pub(crate) const CIVIL_TIMES: [CivilTime; 29] = [
     CivilTime(After, 9, 0),
 ];
 
-// The moment at which the zone's clock shows this, where it does so exactly once.
+/// The moment at which the zone's clock shows this, where it does so exactly once.
 fn moment_at(zone: &TimeZone<'_>, civil: DateTime) -> Option<Moment>
-    ensures { MatchOption result ((m : ℕ) → IsMomentOf (plain_zone zone.now) civil m → ⊥) (IsMomentOf (plain_zone zone.now) civil) }
+    ensures { MatchOption result ((m : ℕ) → IsMomentOf (plain_zone zone.now) civil m → ⊥)
+        (IsMomentOf (plain_zone zone.now) civil) }
 {
     match zone.to_ambiguous_timestamp(civil).unambiguous() {
         Ok(instant) => Moment::new(instant.as_second()),
@@ -64,18 +67,21 @@ fn moment_at(zone: &TimeZone<'_>, civil: DateTime) -> Option<Moment>
     }
 }
 
-// The time of day with this hour and minute.
+/// The time of day with this hour and minute.
 fn time_at(hour: u8, minute: u8) -> Option<Time>
-    ensures { MatchOption result ((time : Time) → IsHms (pos hour) (pos minute) (pos 0) (pos 0) time → ⊥) (IsHms (pos hour) (pos minute) (pos 0) (pos 0)) }
+    ensures { MatchOption result
+        ((time : Time) → IsHms (pos hour) (pos minute) (pos 0) (pos 0) time → ⊥)
+        (IsHms (pos hour) (pos minute) (pos 0) (pos 0)) }
 {
     let hour = i8::try_from(hour).ok()?;
     let minute = i8::try_from(minute).ok()?;
     Time::new(hour, minute, 0, 0).ok()
 }
 
-// The date, or the one beside it.
+/// The date, or the one beside it.
 fn date_at(date: Date, day: Day) -> Option<Date>
-    ensures { MatchOption result ((other : Date) → IsBeside date (day_of day) other → ⊥) (IsBeside date (day_of day)) }
+    ensures { MatchOption result ((other : Date) → IsBeside date (day_of day) other → ⊥)
+        (IsBeside date (day_of day)) }
 {
     match day {
         Before => date.yesterday().ok(),
@@ -84,9 +90,10 @@ fn date_at(date: Date, day: Day) -> Option<Date>
     }
 }
 
-// The date and time of the clock.
+/// The date and time of the clock.
 fn civil_at(date: Date, at: CivilTime) -> Option<DateTime>
-    ensures { MatchOption result ((civil : DateTime) → IsCivil date (time_of at) civil → ⊥) (IsCivil date (time_of at)) }
+    ensures { MatchOption result ((civil : DateTime) → IsCivil date (time_of at) civil → ⊥)
+        (IsCivil date (time_of at)) }
 {
     let CivilTime(day, hour, minute) = at;
     let time = time_at(hour, minute)?;
@@ -96,7 +103,9 @@ fn civil_at(date: Date, at: CivilTime) -> Option<DateTime>
 
 /// The moments of the civil times of a gas day, where each of them is there exactly once.
 pub(crate) fn moments_of(date: Date, zone: &TimeZone<'_>) -> Option<[Moment; 29]>
-    ensures { MatchOption result ((moments : List ℕ) → AreMoments (plain_zone zone.now) date civil_times moments → ⊥) (AreMoments (plain_zone zone.now) date civil_times) }
+    ensures { MatchOption result
+        ((moments : List ℕ) → AreMoments (plain_zone zone.now) date civil_times moments → ⊥)
+        (AreMoments (plain_zone zone.now) date civil_times) }
 {
     let Some(first) = Moment::new(0) else {
         unreachable!();

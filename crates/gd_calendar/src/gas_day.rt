@@ -1,14 +1,28 @@
-ghost use Rattle.std.specs.Prelude.{◌≡◌, MatchResult};
+//! Gas days, by the date on which they start.
+
+ghost use Rattle.std.specs.Prelude.{◌≡◌, MatchResult, Some};
 ghost use Rattle.gd_calendar.specs.Range.{IsGasDay};
+ghost use Rattle.gd_calendar.specs.Names.{gas_day_fault_name};
 
 use jiff::civil::{self, Date};
+use std::fmt;
 use std::marker::Model;
 
-/// Why a date is no gas day.
+/// Why a date is no gas day. It is printed by its name.
 #[derive(Clone, Copy, Debug, PartialEq, Eq)]
 pub enum GasDayFault {
     /// The date lies before 2016-04-02 or after 2099-12-31.
     OutOfRange,
+}
+
+impl fmt::Display for GasDayFault {
+    ghost output = { λ f. Some (gas_day_fault_name f) };
+
+    fn fmt<W: fmt::Write>(&self, f: &mut fmt::Formatter<W>) -> fmt::Result {
+        match self {
+            GasDayFault::OutOfRange => f.write_str("OutOfRange"),
+        }
+    }
 }
 
 /// A gas day, by the date on which it starts: 2016-04-02 to 2099-12-31 (own limit).
@@ -36,7 +50,8 @@ impl Model for GasDay {
 impl GasDay {
     /// The gas day that starts on this date.
     pub fn new(date: Date) -> Result<GasDay, GasDayFault>
-        ensures { MatchResult result (λ day. (day ≡ date) × IsGasDay date) (λ _. IsGasDay date → ⊥) }
+        ensures { MatchResult result (λ day. (day ≡ date) × IsGasDay date)
+            (λ _. IsGasDay date → ⊥) }
     {
         if date < civil::date(2016, 4, 2) || civil::date(2099, 12, 31) < date {
             return Err(GasDayFault::OutOfRange);

@@ -1,9 +1,10 @@
 -- What an exact check of a certificate answers.
-use Rattle.std.specs.Prelude.{◌≡◌, ◌≢◌, ℕ, ℤ, pos, ◌+◌, ◌^◌, ◌<◌, Bool, List, length, ◌⊎◌, IsTrue}
+use Rattle.std.specs.Prelude.{◌≡◌, ◌≢◌, ℕ, ℤ, pos, ◌+◌, ◌<◌, Bool, List, length, ◌⊎◌, IsTrue}
 use Rattle.gd_rules.specs.Scale.{Scale, AtMost}
 use Rattle.gd_rules.specs.Question.{Question, element, line}
 use Rattle.gd_rules.specs.Schedule.{IsAllowed, load, quantity}
 use Rattle.gd_rules.specs.Priced.{IsPriced, Clears, price, margin}
+use Rattle.gd_rules.specs.Limits.{most_price_word}
 use Rattle.gd_schedule.specs.First.{Each, FailsFirst}
 use Rattle.gd_schedule.specs.Exact as schedules
 use Rattle.gd_schedule.specs.declared.Broken.TheVariants.{OutOfMemory as NoMemory}
@@ -12,9 +13,9 @@ use Rattle.gd_certificate.specs.declared.CertFault.TheVariants.{Shape, Broken, P
 
 -- The parts of a certificate, in the order in which they are checked.
 module _ {V : Type 0} (s : Scale V) (within : ℤ → V → Bool) (unit : ℕ → ℕ → V) (q : Question) (schedule : List ℕ) (prices : List V) where
-  -- Each whole number of the price is at most 2^40 in size.
+  -- Each whole number of the price is at most the greatest size.
   abbrev pub SmallAt : ℕ → Type 0
-  SmallAt e = IsTrue (within (pos (2 ^ 40)) (price s prices e))
+  SmallAt e = IsTrue (within (pos most_price_word) (price s prices e))
 
   -- The price fits the element's load.
   abbrev pub ClearsAt : ℕ → Type 0

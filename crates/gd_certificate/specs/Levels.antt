@@ -3,6 +3,7 @@ use Rattle.std.specs.Prelude.{◌≡◌, ℕ, ◌+◌, ◌<◌, ◌^◌, ℤ, po
 use Rattle.gd_rules.specs.Scale.{Scale}
 use Rattle.gd_rules.specs.Question.{Element}
 use Rattle.gd_rules.specs.Priced.{price}
+use Rattle.gd_rules.specs.Limits.{most_price_word}
 use Rattle.gd_tree.specs.Levels.{AreLevels}
 use Rattle.gd_question.specs.Posed.{Posed}
 
@@ -18,5 +19,5 @@ pub record HasLevels {V : Type 0} (s : Scale V) (within : ℤ → V → Bool) (e
 -- All that margins are reckoned from: one price for each element, none too large, and the levels that they make.
 pub record AreReady {V : Type 0} (s : Scale V) (within : ℤ → V → Bool) (q : Posed) (prices heights : List V) : Type 0 where
   pub shape : length prices ≡ length q.asked.elements
-  pub small : (e : ℕ) → e < length q.asked.elements → IsTrue (within (pos (2 ^ 40)) (price s prices e))
+  pub small : (e : ℕ) → e < length q.asked.elements → IsTrue (within (pos most_price_word) (price s prices e))
   pub levels : HasLevels s within q.asked.elements (length q.pipeline.tree + 1) prices heights

@@ -1,6 +1,8 @@
 pub mod Exact
 pub mod Paid
 pub mod Levels
+pub mod Loads
+pub mod Names
 pub mod Cutting
 pub mod InForce
 pub mod Search

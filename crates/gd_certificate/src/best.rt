@@ -1,9 +1,10 @@
 //! The check of a certificate.
 
-ghost use Rattle.std.specs.Prelude.{◌≡◌, ℕ, pos, ◌<◌, ◌^◌, length, map, get_or, IsTrue, OnOk, IfErr, List};
+ghost use Rattle.std.specs.Prelude.{◌≡◌, ℕ, pos, ◌<◌, length, map, get_or, IsTrue, OnOk, IfErr, List};
 ghost use Rattle.gd_rules.specs.Question.{element as asked_element};
 ghost use Rattle.gd_rules.specs.Schedule.{IsAllowed, HasBetterTotals};
 ghost use Rattle.gd_rules.specs.Spread.{IsBest};
+ghost use Rattle.gd_rules.specs.Limits.{most_price_word};
 ghost use Rattle.gd_rules.specs.Priced.{price, Clears};
 ghost use Rattle.gd_rules.specs.Tariff.{IsPricedByTariff, IsPricedByClasses};
 ghost use Rattle.gd_cost.specs.Parts.{words_of, class_words};
@@ -13,19 +14,22 @@ ghost use Rattle.gd_certificate.specs.Levels.{AreReady};
 ghost use Rattle.gd_certificate.specs.InForce.{ExplainsTariff, ExplainsClasses};
 
 use crate::levels::levels;
+use crate::loads::allowed_loads;
 use crate::margin::{clears, is_filled, is_worthwhile, price_of};
-use crate::{CertFault, Prices};
+use crate::{CertFault, MAX_PRICE_WORD, Prices};
 use gd_cost::{ByClass, Cost, Lex, Tariff};
 use gd_question::{Element, Question};
-use gd_schedule::{Schedule, load_table};
+use gd_schedule::Schedule;
 use std::alloc::Global;
 
 /// The first price that is too large.
 fn first_large<C: Cost>(prices: &[C]) -> Option<usize>
-    ensures { FoundFirst (length prices.now) (λ e. IsTrue (C.within (pos (2 ^ 40)) (price C.scale (map C.meaning prices.now) e))) result }
+    ensures { FoundFirst (length prices.now)
+        (λ e. IsTrue (C.within (pos most_price_word) (price C.scale (map C.meaning prices.now) e)))
+        result }
 {
     for at in 0..prices.len() {
-        if !price_of(prices, at).fits(1 << 40) {
+        if !price_of(prices, at).fits(MAX_PRICE_WORD) {
             return Some(at);
         }
     }
@@ -36,7 +40,9 @@ fn first_large<C: Cost>(prices: &[C]) -> Option<usize>
 fn first_slack<C: Cost>(question: &Question, loads: &[i64], prices: &[C]) -> Option<usize>
     requires loads { length loads.now ≡ length question.now.asked.elements }
     requires shape { length prices.now ≡ length question.now.asked.elements }
-    ensures { FoundFirst (length question.now.asked.elements) (λ e. Clears C.scale (asked_element question.now.asked e) (get_or loads.now e (pos 0)) (price C.scale (map C.meaning prices.now) e)) result }
+    ensures { FoundFirst (length question.now.asked.elements)
+        (λ e. Clears C.scale (asked_element question.now.asked e) (get_or loads.now e (pos 0))
+        (price C.scale (map C.meaning prices.now) e)) result }
 {
     for at in 0..question.element_count() {
         if !clears(question.limit(Element(at)), loads[at], price_of(prices, at)) {
@@ -54,8 +60,12 @@ fn first_underfilled<C: ByClass>(
     levels: &[C],
 ) -> Option<usize>
     requires lines { length schedule.now ≡ length question.now.asked.lines }
-    requires ready { AreReady C.scale C.within question.now (map C.meaning prices.now) (map C.meaning levels.now) }
-    ensures { FoundFirst (length question.now.asked.lines) (FilledAt C.scale C.within (λ class tenth. C.meaning (C.at class tenth)) question.now.asked schedule.now (map C.meaning prices.now)) result }
+    requires ready { AreReady C.scale C.within question.now (map C.meaning prices.now)
+        (map C.meaning levels.now) }
+    ensures { FoundFirst (length question.now.asked.lines)
+        (FilledAt C.scale C.within
+        (λ class tenth. C.meaning (C.at class tenth)) question.now.asked schedule.now
+        (map C.meaning prices.now)) result }
 {
     for line in 0..question.line_count() {
         if !is_filled(question, prices, levels, line, schedule.quantity(line)) {
@@ -73,8 +83,12 @@ fn first_overfilled<C: ByClass>(
     levels: &[C],
 ) -> Option<usize>
     requires lines { length schedule.now ≡ length question.now.asked.lines }
-    requires ready { AreReady C.scale C.within question.now (map C.meaning prices.now) (map C.meaning levels.now) }
-    ensures { FoundFirst (length question.now.asked.lines) (WorthwhileAt C.scale C.within (λ class tenth. C.meaning (C.at class tenth)) question.now.asked schedule.now (map C.meaning prices.now)) result }
+    requires ready { AreReady C.scale C.within question.now (map C.meaning prices.now)
+        (map C.meaning levels.now) }
+    ensures { FoundFirst (length question.now.asked.lines)
+        (WorthwhileAt C.scale C.within
+        (λ class tenth. C.meaning (C.at class tenth)) question.now.asked schedule.now
+        (map C.meaning prices.now)) result }
 {
     for line in 0..question.line_count() {
         if !is_worthwhile(question, prices, levels, line, schedule.quantity(line)) {
@@ -91,31 +105,24 @@ fn check_by<C: ByClass>(
     schedule: &Schedule,
     prices: &Prices<C>,
 ) -> Result<(), CertFault>
-    ensures passes { OnOk result (Passes C.scale C.within (λ class tenth. C.meaning (C.at class tenth)) question.now.asked schedule.now (map C.meaning prices.now)) }
-    ensures fault { IfErr result (Explains C.scale C.within (λ class tenth. C.meaning (C.at class tenth)) question.now.asked schedule.now (map C.meaning prices.now)) }
+    ensures passes { OnOk result
+        (Passes C.scale C.within
+        (λ class tenth. C.meaning (C.at class tenth)) question.now.asked schedule.now
+        (map C.meaning prices.now)) }
+    ensures fault { IfErr result
+        (Explains C.scale C.within
+        (λ class tenth. C.meaning (C.at class tenth)) question.now.asked schedule.now
+        (map C.meaning prices.now)) }
 {
     let values = prices.values();
-    if schedule.len() != question.line_count() || values.len() != question.element_count() {
-        return Err(CertFault::Shape);
-    }
-    if let Err(broken) = schedule.bounded(question) {
-        return Err(CertFault::Broken(broken));
-    }
-    let Ok(loads) = load_table(alloc, question, schedule) else {
-        return Err(CertFault::OutOfMemory);
-    };
-    if let Err(broken) = schedule.carried(question, &loads) {
-        return Err(CertFault::Broken(broken));
-    }
+    let loads = allowed_loads(alloc, question, schedule, values.len())?;
     if let Some(at) = first_large(values) {
         return Err(CertFault::PriceTooLarge(Element(at)));
     }
     if let Some(at) = first_slack(question, &loads, values) {
         return Err(CertFault::PriceOnSlack(Element(at)));
     }
-    let Ok(levels) = levels(alloc, question, values) else {
-        return Err(CertFault::OutOfMemory);
-    };
+    let levels = levels(alloc, question, values)?;
     if let Some(line) = first_underfilled(question, schedule, values, &levels) {
         return Err(CertFault::Underfilled(line));
     }
@@ -134,11 +141,16 @@ pub fn check(
     schedule: &Schedule,
     prices: &Prices<Tariff>,
 ) -> Result<(), CertFault>
-    ensures passes { OnOk result (IsAllowed question.now.asked schedule.now × IsPricedByTariff question.now.asked schedule.now (map class_words prices.now)) }
+    ensures passes { OnOk result
+        (IsAllowed question.now.asked schedule.now
+        × IsPricedByTariff question.now.asked schedule.now (map class_words prices.now)) }
     ensures best { OnOk result (IsBest question.now.asked schedule.now) }
-    ensures fault { IfErr result (ExplainsTariff question.now.asked schedule.now (map class_words prices.now)) }
+    ensures fault { IfErr result
+        (ExplainsTariff question.now.asked schedule.now (map class_words prices.now)) }
     // Where all is right nothing but want of memory is told.
-    ensures exact { IsAllowed question.now.asked schedule.now → IsPricedByTariff question.now.asked schedule.now (map class_words prices.now) → IfErr result (λ told. told ≡ CertFault.OutOfMemory) }
+    ensures exact { IsAllowed question.now.asked schedule.now
+        → IsPricedByTariff question.now.asked schedule.now (map class_words prices.now)
+        → IfErr result (λ told. told ≡ CertFault.OutOfMemory) }
 {
     check_by(alloc, question, schedule, prices)
 }
@@ -152,11 +164,17 @@ pub fn check_classes(
     schedule: &Schedule,
     prices: &Prices<Lex<8>>,
 ) -> Result<(), CertFault>
-    ensures passes { OnOk result (IsAllowed question.now.asked schedule.now × IsPricedByClasses question.now.asked schedule.now (map (words_of 8) prices.now)) }
-    ensures best { OnOk result ((other : List ℕ) → IsAllowed question.now.asked other → HasBetterTotals question.now.asked other schedule.now → ⊥) }
-    ensures fault { IfErr result (ExplainsClasses question.now.asked schedule.now (map (words_of 8) prices.now)) }
+    ensures passes { OnOk result
+        (IsAllowed question.now.asked schedule.now
+        × IsPricedByClasses question.now.asked schedule.now (map (words_of 8) prices.now)) }
+    ensures best { OnOk result ((other : List ℕ) → IsAllowed question.now.asked other
+        → HasBetterTotals question.now.asked other schedule.now → ⊥) }
+    ensures fault { IfErr result
+        (ExplainsClasses question.now.asked schedule.now (map (words_of 8) prices.now)) }
     // Where all is right nothing but want of memory is told.
-    ensures exact { IsAllowed question.now.asked schedule.now → IsPricedByClasses question.now.asked schedule.now (map (words_of 8) prices.now) → IfErr result (λ told. told ≡ CertFault.OutOfMemory) }
+    ensures exact { IsAllowed question.now.asked schedule.now
+        → IsPricedByClasses question.now.asked schedule.now (map (words_of 8) prices.now)
+        → IfErr result (λ told. told ≡ CertFault.OutOfMemory) }
 {
     check_by(alloc, question, schedule, prices)
 }

@@ -90,9 +90,14 @@ fn check_in_force(
     schedule: &Schedule,
     prices: &Prices<Tariff>,
 ) -> Result<(), CertFault>
-    ensures passes { OnOk result (IsAllowed question.now.asked schedule.now × IsPricedByTariff question.now.asked schedule.now (map class_words prices.now)) }
-    ensures fault { IfErr result (ExplainsTariff question.now.asked schedule.now (map class_words prices.now)) }
-    ensures exact { IsAllowed question.now.asked schedule.now → IsPricedByTariff question.now.asked schedule.now (map class_words prices.now) → IfErr result (λ told. told ≡ CertFault.OutOfMemory) }
+    ensures passes { OnOk result
+        (IsAllowed question.now.asked schedule.now
+        × IsPricedByTariff question.now.asked schedule.now (map class_words prices.now)) }
+    ensures fault { IfErr result
+        (ExplainsTariff question.now.asked schedule.now (map class_words prices.now)) }
+    ensures exact { IsAllowed question.now.asked schedule.now
+        → IsPricedByTariff question.now.asked schedule.now (map class_words prices.now)
+        → IfErr result (λ told. told ≡ CertFault.OutOfMemory) }
 {
     check_together(rt, alloc, question, schedule, prices)
 }
@@ -107,12 +112,18 @@ pub fn check_par(
     schedule: Schedule,
     prices: Prices<Tariff>,
 ) -> Result<Checked, (CertFault, Question, Schedule, Prices<Tariff>)>
-    ensures passes { IfOk result (λ checked. checked ≡ record { question = question; schedule = schedule; prices = prices }) }
+    ensures passes { IfOk result
+        (λ checked. checked
+        ≡ record { question = question; schedule = schedule; prices = prices }) }
     ensures right { IfOk result IsRight }
-    ensures fault { IfErr result (λ refused. ExplainsTariff question.asked schedule (map class_words prices) refused.0) }
-    ensures kept { IfErr result (λ refused. (refused.1 ≡ question) × (refused.2 ≡ schedule) × (refused.3 ≡ prices)) }
+    ensures fault { IfErr result
+        (λ refused. ExplainsTariff question.asked schedule (map class_words prices) refused.0) }
+    ensures kept { IfErr result (λ refused. (refused.1 ≡ question) × (refused.2 ≡ schedule)
+        × (refused.3 ≡ prices)) }
     // Where all is right nothing but want of memory is told.
-    ensures exact { IsAllowed question.asked schedule → IsPricedByTariff question.asked schedule (map class_words prices) → IfErr result (λ refused. refused.0 ≡ CertFault.OutOfMemory) }
+    ensures exact { IsAllowed question.asked schedule
+        → IsPricedByTariff question.asked schedule (map class_words prices)
+        → IfErr result (λ refused. refused.0 ≡ CertFault.OutOfMemory) }
 {
     match check_in_force(rt, alloc, &question, &schedule, &prices) {
         Ok(()) => Ok(Checked {

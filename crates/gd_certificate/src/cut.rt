@@ -7,10 +7,12 @@ ghost use Rattle.gd_rules.specs.Cut.{has_place, has_end, way_out, must_leave, ma
 ghost use Rattle.gd_certificate.specs.Cutting.{side_of, ExplainsCut, IsShaped, Cuts};
 
 use gd_question::{Element, Part, PlaceId, Question};
+use gd_units::Dth;
 use std::alloc::{AllocError, Global};
 use std::marker::Model;
 
 /// Why a set does not show that no schedule is allowed, the first reason in this order.
+/// It is printed by its name.
 #[derive(Clone, Copy, Debug, PartialEq, Eq, Drop)]
 pub enum CutFault {
     /// There is not one entry for each place, each point and each pool.
@@ -47,7 +49,8 @@ fn entry(bits: &[bool], at: usize) -> bool
 impl Cut {
     /// The set of the places, points and pools whose entry is true.
     pub fn of(places: Vec<bool>, points: Vec<bool>, pools: Vec<bool>) -> Cut
-        ensures { result ≡ record { places = places.items; points = points.items; pools = pools.items } }
+        ensures { result
+            ≡ record { places = places.items; points = points.items; pools = pools.items } }
     {
         Cut {
             places,
@@ -120,8 +123,9 @@ impl Cut {
 /// What can flow out of the set through an element, in dekatherms a gas day.
 fn way_out(question: &Question, cut: &Cut, at: Element) -> u64
     requires { at.0 < length question.now.asked.elements }
-    ensures is { result ≡ way_out (side_of question.now.pipeline cut.now) at.0 (asked_element question.now.asked at.0) }
-    ensures small { result ≤ 1_000_000_000 }
+    ensures is { result ≡ way_out (side_of question.now.pipeline cut.now) at.0
+        (asked_element question.now.asked at.0) }
+    ensures small { result ≤ Dth.MAX }
 {
     match question.part(at) {
         Part::Segment(from, to, capacity)
@@ -185,8 +189,11 @@ fn may_enter(question: &Question, cut: &Cut) -> u64
 ///
 /// What must leave is the floors of the lines that lead out. What can is the ceilings of the lines that lead in, and the capacities of the segments and points that lead out (Hoffman).
 pub fn check_cut(question: &Question, cut: &Cut) -> Result<u64, CutFault>
-    ensures excess { IfOk result (λ n. IsShaped question.now.pipeline cut.now × Cuts question.now cut.now × (pos n ≡ excess question.now.asked (side_of question.now.pipeline cut.now))) }
-    ensures none { IfOk result (λ n. (schedule : List ℕ) → IsAllowed question.now.asked schedule → ⊥) }
+    ensures excess { IfOk result
+        (λ n. IsShaped question.now.pipeline cut.now × Cuts question.now cut.now
+        × (pos n ≡ excess question.now.asked (side_of question.now.pipeline cut.now))) }
+    ensures none { IfOk result (λ n. (schedule : List ℕ) → IsAllowed question.now.asked schedule
+        → ⊥) }
     ensures fault { IfErr result (ExplainsCut question.now cut.now) }
 {
     question.known();

@@ -1,8 +1,9 @@
 //! Levels of places: what a route's segments cost together is the difference of its two places' levels.
 
-ghost use Rattle.std.specs.Prelude.{◌≡◌, ℕ, ◌+◌, ◌<◌, ◌^◌, pos, length, map, IfOk, IsTrue};
+ghost use Rattle.std.specs.Prelude.{◌≡◌, ℕ, ◌+◌, ◌<◌, pos, length, map, IfOk, IsTrue};
 ghost use Rattle.gd_rules.specs.Question.{element as asked_element};
 ghost use Rattle.gd_rules.specs.Question.Element.{Segment as segment};
+ghost use Rattle.gd_rules.specs.Limits.{most_price_word};
 ghost use Rattle.gd_rules.specs.Priced.{price};
 ghost use Rattle.gd_tree.specs.Grown.{Joins};
 ghost use Rattle.gd_certificate.specs.Levels.{HasLevels};
@@ -23,7 +24,8 @@ struct SegmentEnds {
 /// The places of the segment of this number, one of which is the next after all earlier ones.
 fn ends_of(question: &Question, at: usize) -> SegmentEnds
     requires { at < length question.now.pipeline.tree }
-    ensures is { asked_element question.now.asked at ≡ segment result.from result.to result.capacity }
+    ensures is { asked_element question.now.asked at
+        ≡ segment result.from result.to result.capacity }
     ensures joins { Joins at (segment result.from result.to result.capacity) }
 {
     question.placed();
@@ -44,8 +46,11 @@ pub fn levels<C: Cost>(
     prices: &[C],
 ) -> Result<Vec<C>, AllocError>
     requires shape { length prices.now ≡ length question.now.asked.elements }
-    requires small { (e : ℕ) → e < length question.now.asked.elements → IsTrue (C.within (pos (2 ^ 40)) (price C.scale (map C.meaning prices.now) e)) }
-    ensures { IfOk result (λ levels. HasLevels C.scale C.within question.now.asked.elements (length question.now.pipeline.tree + 1) (map C.meaning prices.now) (map C.meaning levels.items)) }
+    requires small { (e : ℕ) → e < length question.now.asked.elements
+        → IsTrue (C.within (pos most_price_word) (price C.scale (map C.meaning prices.now) e)) }
+    ensures { IfOk result (λ levels. HasLevels C.scale C.within question.now.asked.elements
+        (length question.now.pipeline.tree + 1) (map C.meaning prices.now)
+        (map C.meaning levels.items)) }
 {
     question.placed();
     let count = question.system().segment_count();

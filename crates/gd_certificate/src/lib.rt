@@ -8,7 +8,9 @@ ghost use Rattle.std.specs.Prelude.{◌≡◌, IfOk};
 mod best;
 mod checked;
 mod cut;
+mod fault;
 mod levels;
+mod loads;
 mod margin;
 mod par;
 
@@ -21,7 +23,11 @@ use gd_schedule::Broken;
 use std::alloc::{AllocError, Global};
 use std::marker::Model;
 
+/// The greatest size of a number in a price (own limit).
+pub const MAX_PRICE_WORD: i128 = 1 << 40;
+
 /// What is wrong with a certificate: the first kind of fault in this order, at its least line or element, counted from 0.
+/// It is printed by its name alone, and a fault of the schedule by its own.
 #[derive(Clone, Copy, Debug, PartialEq, Eq, Drop)]
 pub enum CertFault {
     /// There is not one quantity for each line, or not one price for each element.

@@ -4,6 +4,7 @@ ghost use Rattle.std.specs.Prelude.{◌≡◌, ◌↔◌, pos, ◌<◌, ◌≤�
 ghost use Rattle.gd_rules.specs.Scale.{AtMost};
 ghost use Rattle.gd_rules.specs.Question.{line as asked_line, element as asked_element};
 ghost use Rattle.gd_rules.specs.Tree.{CanSend, place_of};
+ghost use Rattle.gd_rules.specs.Limits.{most_price_word};
 ghost use Rattle.gd_rules.specs.Priced.{price, crossed, margin as margin_of};
 ghost use Rattle.gd_system.specs.Pipeline.{element_of};
 ghost use Rattle.gd_certificate.specs.Paid.{ClearsLimit, origin_price};
@@ -26,8 +27,12 @@ pub fn price_of<C: Cost>(prices: &[C], at: usize) -> C
 /// The level of the place that an element hangs on.
 fn level_at<C: Cost>(question: &Question, prices: &[C], levels: &[C], at: Element) -> C
     requires known { at.0 < length question.now.asked.elements }
-    requires levels { HasLevels C.scale C.within question.now.asked.elements (length question.now.pipeline.tree + 1) (map C.meaning prices.now) (map C.meaning levels.now) }
-    ensures is { C.meaning result ≡ level C.scale (map C.meaning levels.now) (place_of (asked_element question.now.asked at.0)) }
+    requires levels { HasLevels C.scale C.within question.now.asked.elements
+        (length question.now.pipeline.tree + 1) (map C.meaning prices.now)
+        (map C.meaning levels.now) }
+    ensures is { C.meaning result
+        ≡ level C.scale (map C.meaning levels.now)
+        (place_of (asked_element question.now.asked at.0)) }
     ensures small { IsTrue (C.within (pos (2 ^ 52)) (C.meaning result)) }
 {
     question.placed();
@@ -36,9 +41,10 @@ fn level_at<C: Cost>(question: &Question, prices: &[C], levels: &[C], at: Elemen
 
 /// What a line pays at its origin: the price, got back where it leaves a pool.
 fn origin_price<C: Cost>(part: Part, price: C) -> C
-    requires { IsTrue (C.within (pos (2 ^ 40)) (C.meaning price)) }
-    ensures is { CanSend (element_of part) → C.meaning result ≡ origin_price C.scale (element_of part) (C.meaning price) }
-    ensures small { IsTrue (C.within (pos (2 ^ 40)) (C.meaning result)) }
+    requires { IsTrue (C.within (pos most_price_word) (C.meaning price)) }
+    ensures is { CanSend (element_of part)
+        → C.meaning result ≡ origin_price C.scale (element_of part) (C.meaning price) }
+    ensures small { IsTrue (C.within (pos most_price_word) (C.meaning result)) }
 {
     match part {
         Part::Pool(_) => C::zero().sub(price),
@@ -49,8 +55,10 @@ fn origin_price<C: Cost>(part: Part, price: C) -> C
 /// What a line pays for a dekatherm: for its route the difference of two levels, and the prices of its ends, that of a pool got back where it leaves it.
 fn paid<C: Cost>(question: &Question, prices: &[C], levels: &[C], line: usize) -> C
     requires known { line < length question.now.asked.lines }
-    requires ready { AreReady C.scale C.within question.now (map C.meaning prices.now) (map C.meaning levels.now) }
-    ensures is { C.meaning result ≡ crossed C.scale question.now.asked (map C.meaning prices.now) line }
+    requires ready { AreReady C.scale C.within question.now (map C.meaning prices.now)
+        (map C.meaning levels.now) }
+    ensures is { C.meaning result
+        ≡ crossed C.scale question.now.asked (map C.meaning prices.now) line }
     ensures small { IsTrue (C.within (pos (2 ^ 54)) (C.meaning result)) }
 {
     question.known();
@@ -72,9 +80,12 @@ fn margin<C: ByClass>(
     dekatherm: u64,
 ) -> C
     requires known { line < length question.now.asked.lines }
-    requires ready { AreReady C.scale C.within question.now (map C.meaning prices.now) (map C.meaning levels.now) }
+    requires ready { AreReady C.scale C.within question.now (map C.meaning prices.now)
+        (map C.meaning levels.now) }
     requires counted { 1 ≤ dekatherm }
-    ensures { C.meaning result ≡ margin_of C.scale (λ class tenth. C.meaning (C.at class tenth)) question.now.asked (map C.meaning prices.now) line dekatherm }
+    ensures { C.meaning result ≡ margin_of C.scale
+        (λ class tenth. C.meaning (C.at class tenth)) question.now.asked
+        (map C.meaning prices.now) line dekatherm }
 {
     let tenth = tenth_of(question.ceiling(line), dekatherm);
     C::unit_at(question.class(line), tenth).sub(paid(question, prices, levels, line))
@@ -89,8 +100,13 @@ pub fn is_filled<C: ByClass>(
     quantity: Dth,
 ) -> bool
     requires known { line < length question.now.asked.lines }
-    requires ready { AreReady C.scale C.within question.now (map C.meaning prices.now) (map C.meaning levels.now) }
-    ensures { IsTrue result ↔ (quantity < (asked_line question.now.asked line).ceiling → AtMost C.scale (margin_of C.scale (λ class tenth. C.meaning (C.at class tenth)) question.now.asked (map C.meaning prices.now) line (quantity + 1)) C.scale.none) }
+    requires ready { AreReady C.scale C.within question.now (map C.meaning prices.now)
+        (map C.meaning levels.now) }
+    ensures { IsTrue result
+        ↔ (quantity < (asked_line question.now.asked line).ceiling
+        → AtMost C.scale (margin_of C.scale
+        (λ class tenth. C.meaning (C.at class tenth)) question.now.asked
+        (map C.meaning prices.now) line (quantity + 1)) C.scale.none) }
 {
     let next = quantity.get() + 1;
     if question.ceiling(line).get() < next {
@@ -108,8 +124,13 @@ pub fn is_worthwhile<C: ByClass>(
     quantity: Dth,
 ) -> bool
     requires known { line < length question.now.asked.lines }
-    requires ready { AreReady C.scale C.within question.now (map C.meaning prices.now) (map C.meaning levels.now) }
-    ensures { IsTrue result ↔ ((asked_line question.now.asked line).floor < quantity → AtMost C.scale C.scale.none (margin_of C.scale (λ class tenth. C.meaning (C.at class tenth)) question.now.asked (map C.meaning prices.now) line quantity)) }
+    requires ready { AreReady C.scale C.within question.now (map C.meaning prices.now)
+        (map C.meaning levels.now) }
+    ensures { IsTrue result
+        ↔ ((asked_line question.now.asked line).floor < quantity
+        → AtMost C.scale C.scale.none
+        (margin_of C.scale (λ class tenth. C.meaning (C.at class tenth)) question.now.asked
+        (map C.meaning prices.now) line quantity)) }
 {
     let last = quantity.get();
     if last <= question.floor(line).get() {

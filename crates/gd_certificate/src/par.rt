@@ -1,7 +1,8 @@
 //! The check of a certificate in several threads, with the answer of one.
 
-ghost use Rattle.std.specs.Prelude.{◌≡◌, ℕ, pos, ◌<◌, ◌^◌, ◌↔◌, length, map, get_or, false, IsTrue, OnOk, IfErr};
+ghost use Rattle.std.specs.Prelude.{◌≡◌, ℕ, pos, ◌<◌, ◌↔◌, length, map, get_or, false, IsTrue, OnOk, IfErr};
 ghost use Rattle.gd_rules.specs.Question.{element as asked_element};
+ghost use Rattle.gd_rules.specs.Limits.{most_price_word};
 ghost use Rattle.gd_rules.specs.Priced.{price, Clears};
 ghost use Rattle.gd_schedule.specs.First.{FoundFirst};
 ghost use Rattle.gd_certificate.specs.Exact.{Passes, Explains, FilledAt, WorthwhileAt};
@@ -9,11 +10,12 @@ ghost use Rattle.gd_certificate.specs.Levels.{AreReady};
 ghost use Rattle.gd_certificate.specs.Search.{FindsFirst};
 
 use crate::levels::levels;
+use crate::loads::allowed_loads;
 use crate::margin::{clears, is_filled, is_worthwhile, price_of};
-use crate::{CertFault, Prices};
+use crate::{CertFault, MAX_PRICE_WORD, Prices};
 use gd_cost::{ByClass, Cost};
 use gd_question::{Element, Question};
-use gd_schedule::{Schedule, load_table};
+use gd_schedule::Schedule;
 use rayon::prelude::*;
 use std::alloc::Global;
 use std::thread::Threads;
@@ -32,15 +34,19 @@ fn first_wrong<F: Fn(usize) -> bool + Sync>(
 
 /// The first price that is too large.
 fn first_large<C: Cost + Sync>(rt: &(impl Threads + Sync), prices: &[C]) -> Option<usize>
-    ensures { FoundFirst (length prices.now) (λ e. IsTrue (C.within (pos (2 ^ 40)) (price C.scale (map C.meaning prices.now) e))) result }
+    ensures { FoundFirst (length prices.now)
+        (λ e. IsTrue (C.within (pos most_price_word) (price C.scale (map C.meaning prices.now) e)))
+        result }
 {
     first_wrong(
         rt,
         prices.len(),
         |at: usize| -> bool
             requires { at < length prices.now }
-            ensures { (result ≡ false) ↔ IsTrue (C.within (pos (2 ^ 40)) (price C.scale (map C.meaning prices.entry.now) at)) }
-        { !price_of(prices, at).fits(1 << 40) },
+            ensures { (result ≡ false) ↔ IsTrue
+                (C.within (pos most_price_word)
+                (price C.scale (map C.meaning prices.entry.now) at)) }
+        { !price_of(prices, at).fits(MAX_PRICE_WORD) },
     )
 }
 
@@ -53,14 +59,20 @@ fn first_slack<C: Cost + Sync>(
 ) -> Option<usize>
     requires loads { length loads.now ≡ length question.now.asked.elements }
     requires shape { length prices.now ≡ length question.now.asked.elements }
-    ensures { FoundFirst (length question.now.asked.elements) (λ e. Clears C.scale (asked_element question.now.asked e) (get_or loads.now e (pos 0)) (price C.scale (map C.meaning prices.now) e)) result }
+    ensures { FoundFirst (length question.now.asked.elements)
+        (λ e. Clears C.scale (asked_element question.now.asked e) (get_or loads.now e (pos 0))
+        (price C.scale (map C.meaning prices.now) e)) result }
 {
     first_wrong(
         rt,
         question.element_count(),
         |at: usize| -> bool
-            requires { (at < length question.now.asked.elements) × (length loads.now ≡ length question.now.asked.elements) × (length prices.now ≡ length question.now.asked.elements) }
-            ensures { (result ≡ false) ↔ Clears C.scale (asked_element question.entry.now.asked at) (get_or loads.entry.now at (pos 0)) (price C.scale (map C.meaning prices.entry.now) at) }
+            requires { (at < length question.now.asked.elements)
+                × (length loads.now ≡ length question.now.asked.elements)
+                × (length prices.now ≡ length question.now.asked.elements) }
+            ensures { (result ≡ false) ↔ Clears C.scale (asked_element question.entry.now.asked at)
+                (get_or loads.entry.now at (pos 0))
+                (price C.scale (map C.meaning prices.entry.now) at) }
         { !clears(question.limit(Element(at)), loads[at], price_of(prices, at)) },
     )
 }
@@ -74,15 +86,24 @@ fn first_underfilled<C: ByClass + Sync>(
     levels: &[C],
 ) -> Option<usize>
     requires lines { length schedule.now ≡ length question.now.asked.lines }
-    requires ready { AreReady C.scale C.within question.now (map C.meaning prices.now) (map C.meaning levels.now) }
-    ensures { FoundFirst (length question.now.asked.lines) (FilledAt C.scale C.within (λ class tenth. C.meaning (C.at class tenth)) question.now.asked schedule.now (map C.meaning prices.now)) result }
+    requires ready { AreReady C.scale C.within question.now (map C.meaning prices.now)
+        (map C.meaning levels.now) }
+    ensures { FoundFirst (length question.now.asked.lines)
+        (FilledAt C.scale C.within
+        (λ class tenth. C.meaning (C.at class tenth)) question.now.asked schedule.now
+        (map C.meaning prices.now)) result }
 {
     first_wrong(
         rt,
         question.line_count(),
         |line: usize| -> bool
-            requires { (line < length question.now.asked.lines) × (length schedule.now ≡ length question.now.asked.lines) × AreReady C.scale C.within question.now (map C.meaning prices.now) (map C.meaning levels.now) }
-            ensures { (result ≡ false) ↔ FilledAt C.scale C.within (λ class tenth. C.meaning (C.at class tenth)) question.entry.now.asked schedule.entry.now (map C.meaning prices.entry.now) line }
+            requires { (line < length question.now.asked.lines)
+                × (length schedule.now ≡ length question.now.asked.lines)
+                × AreReady C.scale C.within question.now (map C.meaning prices.now)
+                (map C.meaning levels.now) }
+            ensures { (result ≡ false) ↔ FilledAt C.scale C.within
+                (λ class tenth. C.meaning (C.at class tenth)) question.entry.now.asked
+                schedule.entry.now (map C.meaning prices.entry.now) line }
         { !is_filled(question, prices, levels, line, schedule.quantity(line)) },
     )
 }
@@ -96,15 +117,24 @@ fn first_overfilled<C: ByClass + Sync>(
     levels: &[C],
 ) -> Option<usize>
     requires lines { length schedule.now ≡ length question.now.asked.lines }
-    requires ready { AreReady C.scale C.within question.now (map C.meaning prices.now) (map C.meaning levels.now) }
-    ensures { FoundFirst (length question.now.asked.lines) (WorthwhileAt C.scale C.within (λ class tenth. C.meaning (C.at class tenth)) question.now.asked schedule.now (map C.meaning prices.now)) result }
+    requires ready { AreReady C.scale C.within question.now (map C.meaning prices.now)
+        (map C.meaning levels.now) }
+    ensures { FoundFirst (length question.now.asked.lines)
+        (WorthwhileAt C.scale C.within
+        (λ class tenth. C.meaning (C.at class tenth)) question.now.asked schedule.now
+        (map C.meaning prices.now)) result }
 {
     first_wrong(
         rt,
         question.line_count(),
         |line: usize| -> bool
-            requires { (line < length question.now.asked.lines) × (length schedule.now ≡ length question.now.asked.lines) × AreReady C.scale C.within question.now (map C.meaning prices.now) (map C.meaning levels.now) }
-            ensures { (result ≡ false) ↔ WorthwhileAt C.scale C.within (λ class tenth. C.meaning (C.at class tenth)) question.entry.now.asked schedule.entry.now (map C.meaning prices.entry.now) line }
+            requires { (line < length question.now.asked.lines)
+                × (length schedule.now ≡ length question.now.asked.lines)
+                × AreReady C.scale C.within question.now (map C.meaning prices.now)
+                (map C.meaning levels.now) }
+            ensures { (result ≡ false) ↔ WorthwhileAt C.scale C.within
+                (λ class tenth. C.meaning (C.at class tenth)) question.entry.now.asked
+                schedule.entry.now (map C.meaning prices.entry.now) line }
         { !is_worthwhile(question, prices, levels, line, schedule.quantity(line)) },
     )
 }
@@ -117,31 +147,24 @@ pub fn check_together<C: ByClass + Sync>(
     schedule: &Schedule,
     prices: &Prices<C>,
 ) -> Result<(), CertFault>
-    ensures passes { OnOk result (Passes C.scale C.within (λ class tenth. C.meaning (C.at class tenth)) question.now.asked schedule.now (map C.meaning prices.now)) }
-    ensures fault { IfErr result (Explains C.scale C.within (λ class tenth. C.meaning (C.at class tenth)) question.now.asked schedule.now (map C.meaning prices.now)) }
+    ensures passes { OnOk result
+        (Passes C.scale C.within
+        (λ class tenth. C.meaning (C.at class tenth)) question.now.asked schedule.now
+        (map C.meaning prices.now)) }
+    ensures fault { IfErr result
+        (Explains C.scale C.within
+        (λ class tenth. C.meaning (C.at class tenth)) question.now.asked schedule.now
+        (map C.meaning prices.now)) }
 {
     let values = prices.values();
-    if schedule.len() != question.line_count() || values.len() != question.element_count() {
-        return Err(CertFault::Shape);
-    }
-    if let Err(broken) = schedule.bounded(question) {
-        return Err(CertFault::Broken(broken));
-    }
-    let Ok(loads) = load_table(alloc, question, schedule) else {
-        return Err(CertFault::OutOfMemory);
-    };
-    if let Err(broken) = schedule.carried(question, &loads) {
-        return Err(CertFault::Broken(broken));
-    }
+    let loads = allowed_loads(alloc, question, schedule, values.len())?;
     if let Some(at) = first_large(rt, values) {
         return Err(CertFault::PriceTooLarge(Element(at)));
     }
     if let Some(at) = first_slack(rt, question, &loads, values) {
         return Err(CertFault::PriceOnSlack(Element(at)));
     }
-    let Ok(levels) = levels(alloc, question, values) else {
-        return Err(CertFault::OutOfMemory);
-    };
+    let levels = levels(alloc, question, values)?;
     if let Some(line) = first_underfilled(rt, question, schedule, values, &levels) {
         return Err(CertFault::Underfilled(line));
     }

@@ -1,6 +1,7 @@
 -- The contracts that shippers hold on a pipeline, what may be added to them, and what they are then.
 use Rattle.std.specs.Prelude.{ℕ, List, [], ◌∷◌, ◌++◌, length, Option, Some, None, if◌then◌else◌, is_some, nat_le, Result, Ok, Err}
 use Rattle.std.specs.List.{find}
+use Rattle.gd_rules.specs.Limits.{most_contracts}
 use Rattle.gd_system.specs.Pipeline.{Pipeline, same_name}
 use Rattle.gd_system.specs.Route.{ends_of}
 use Rattle.gd_system.specs.declared.part.Ends.{Ends}
@@ -34,9 +35,9 @@ primary_refusal p (Interruptible band) = None
 -- What is told with so many contracts there, where the primary ends are refused or not.
 abbrev pub routed_within : ℕ → Option RouteFault → Result (Unit {0}) ContractFault
 routed_within count (Some fault) = Err (Route fault)
-routed_within count None = if nat_le 4096 count then Err TooMany else Ok tt
+routed_within count None = if nat_le most_contracts count then Err TooMany else Ok tt
 
--- The first refusal of a contract of this name for this service. There are at most 4,096.
+-- The first refusal of a contract of this name for this service.
 abbrev pub checked_contract : Held → List ℕ → Service → Result (Unit {0}) ContractFault
 checked_contract h name service = if is_some (contract_named h.contracts name) then Err Duplicate else routed_within (length h.contracts) (primary_refusal h.pipeline service)
 

@@ -1,4 +1,5 @@
 pub mod Held
 pub mod Known
+pub mod Names
 pub mod Classes
 pub mod Inside

@@ -1,3 +1,5 @@
+//! The priority class of a line under a contract, by the stated tariff (own).
+
 ghost use Rattle.std.specs.Prelude.{◌≡◌, ℕ, ◌≤◌, ◌↔◌, List, None, IfOk, Ok, Err, IsSome};
 ghost use Rattle.gd_rules.specs.Class.{lies_on, class_of as class_by};
 ghost use Rattle.gd_rules.specs.Class.Service.{Firm as firm};
@@ -13,20 +15,22 @@ use gd_units::{Class, Name};
 
 /// A class that is told is that of the tariff, for the one primary route and the one route of the line.
 pub fn classes_are()
-    ensures { (held : Held) (contract origin dest : List ℕ) (class : ℕ) → IsHeld held → class_told held contract origin dest ≡ Ok class → HasClass held contract origin dest class }
+    ensures { (held : Held) (contract origin dest : List ℕ) (class : ℕ) → IsHeld held
+        → class_told held contract origin dest ≡ Ok class
+        → HasClass held contract origin dest class }
 {}
 
-// The class of this number.
+/// The class of this number.
 fn numbered(number: u8) -> Class
-    requires { (1 ≤ number) × (number ≤ 8) }
+    requires { (1 ≤ number) × (number ≤ Class.MAX) }
     ensures { result ≡ number }
 {
     Class::new(number).unwrap()
 }
 
-// Whether each segment of a line's route lies on the primary route. Gas never comes to a place twice, so that holds
-// exactly where it can flow from the primary origin to the line's, and on from the line's destination to the primary
-// one, unless the line passes no segment.
+/// Whether each segment of a line's route lies on the primary route. Gas never comes to a place twice, so that holds
+/// exactly where it can flow from the primary origin to the line's, and on from the line's destination to the primary
+/// one, unless the line passes no segment.
 fn in_path(system: &System, primary: Ends, line: Ends) -> bool
     requires primary_ends { AreEnds system.now primary }
     requires line_ends { AreEnds system.now line }
@@ -42,11 +46,13 @@ fn in_path(system: &System, primary: Ends, line: Ends) -> bool
     tree.runs(primary.origin_place.0 as u32, origin) && tree.runs(dest, primary.dest_place.0 as u32)
 }
 
-// The class of a line under firm service between these primary ends.
+/// The class of a line under firm service between these primary ends.
 fn firm_class(system: &System, primary: Ends, line: Ends) -> Class
     requires primary_ends { AreEnds system.now primary }
     requires line_ends { AreEnds system.now line }
-    ensures { result ≡ class_by (firm primary.origin.0 primary.dest.0 (route_between system.now primary)) line.origin.0 line.dest.0 (route_between system.now line) }
+    ensures { result ≡ class_by
+        (firm primary.origin.0 primary.dest.0 (route_between system.now primary))
+        line.origin.0 line.dest.0 (route_between system.now line) }
 {
     if line.origin == primary.origin && line.dest == primary.dest {
         numbered(1)
@@ -57,7 +63,7 @@ fn firm_class(system: &System, primary: Ends, line: Ends) -> Class
     }
 }
 
-// The class of a line under the service of a contract that is held.
+/// The class of a line under the service of a contract that is held.
 fn class_under(system: &System, service: Service, line: Ends) -> Class
     requires routed { IsRouted system.now service }
     requires line_ends { AreEnds system.now line }
@@ -82,16 +88,16 @@ impl Contracts {
     pub fn class_of(&self, contract: Name, origin: Name, dest: Name) -> Result<Class, ClassFault>
         ensures is { result ≡ class_told self.now contract origin dest }
         ensures classed { IfOk result (HasClass self.now contract origin dest) }
-        ensures unknown { (result ≡ Err ClassFault.UnknownContract) ↔ (contract_named self.now.contracts contract ≡ None) }
-        ensures refused { (fault : RouteFault) → (result ≡ Err (ClassFault.Route fault)) ↔ (IsSome (contract_named self.now.contracts contract) × (ends_of self.now.pipeline origin dest ≡ Err fault)) }
+        ensures unknown { (result ≡ Err ClassFault.UnknownContract)
+            ↔ (contract_named self.now.contracts contract ≡ None) }
+        ensures refused { (fault : RouteFault) → (result ≡ Err (ClassFault.Route fault))
+            ↔ (IsSome (contract_named self.now.contracts contract)
+            × (ends_of self.now.pipeline origin dest ≡ Err fault)) }
     {
         let Some(agreed) = self.contract(contract) else {
             return Err(ClassFault::UnknownContract);
         };
-        let line = match self.system.ends(origin, dest) {
-            Ok(line) => line,
-            Err(fault) => return Err(ClassFault::Route(fault)),
-        };
+        let line = self.system.ends(origin, dest)?;
         Ok(class_under(&self.system, agreed.service, line))
     }
 }

@@ -1,3 +1,5 @@
+//! What a contract says.
+
 use gd_units::{Band, Dth, Name};
 
 /// What a contract buys: firm transportation service, or interruptible (18 CFR 284.7 and 284.9).

@@ -1,3 +1,5 @@
+//! The contracts held on a pipeline: what is refused, and what can be read of them.
+
 ghost use Rattle.std.specs.Prelude.{◌≡◌, ◌<◌, ◌==◌, ◌++◌, ◌∷◌, [], length, None, Some, IfErr, OnOk, OnErr, Ok, Err, ◌⊎◌};
 ghost use Rattle.gd_contracts.specs.Held.{none_on, contract_named, checked_contract, after_contract};
 ghost use Rattle.gd_contracts.specs.Held as spec;
@@ -6,7 +8,7 @@ ghost use Rattle.gd_contracts.specs.Inside.{contract_of};
 ghost use Rattle.gd_system.specs.Pipeline.{same_name};
 ghost use Rattle.indexmap.specs.IndexMap.{spare, get, IsUnique};
 
-use crate::{Contract, ContractFault, Service};
+use crate::{Contract, ContractFault, MAX_CONTRACTS, Service};
 use gd_system::{RouteFault, System};
 use gd_units::{Dth, Name};
 use indexmap::IndexMap;
@@ -21,7 +23,7 @@ struct Terms {
     service: Service,
 }
 
-// Adds a new name with its value, last, in room that is there.
+/// Adds a new name with its value, last, in room that is there.
 fn enter<V: Drop>(entries: &mut IndexMap<Name, V>, name: Name, value: V)
     requires room { 0 < spare entries.old }
     requires new { get same_name entries.old name ≡ None }
@@ -31,7 +33,7 @@ fn enter<V: Drop>(entries: &mut IndexMap<Name, V>, name: Name, value: V)
     entries.insert(name, value).unwrap();
 }
 
-// What is kept of a contract under its name.
+/// What is kept of a contract under its name.
 fn terms_of(contract: Contract) -> Terms
     ensures { contract_of (contract.name, result) ≡ contract }
 {
@@ -42,7 +44,7 @@ fn terms_of(contract: Contract) -> Terms
     }
 }
 
-// Why no route leads between the primary ends of firm service, if none does.
+/// Why no route leads between the primary ends of firm service, if none does.
 fn primary_refusal(system: &System, service: Service) -> Option<RouteFault>
     ensures { result ≡ spec.primary_refusal system.now service }
 {
@@ -124,11 +126,11 @@ impl Contracts {
         })
     }
 
-    // The first refusal of a contract.
+    /// The first refusal of a contract.
     fn check(&self, name: Name, service: Service) -> Result<(), ContractFault>
         ensures is { result ≡ checked_contract self.now name service }
         ensures new { OnOk result (contract_named self.now.contracts name ≡ None) }
-        ensures few { OnOk result (length self.now.contracts < 4096) }
+        ensures few { OnOk result (length self.now.contracts < MAX_CONTRACTS) }
     {
         if self.terms.contains_key(&name) {
             return Err(ContractFault::Duplicate);
@@ -136,7 +138,7 @@ impl Contracts {
         if let Some(fault) = primary_refusal(&self.system, service) {
             return Err(ContractFault::Route(fault));
         }
-        if self.terms.len() >= 4096 {
+        if self.terms.len() >= MAX_CONTRACTS {
             return Err(ContractFault::TooMany);
         }
         Ok(())
@@ -151,16 +153,17 @@ impl Contracts {
     /// are as they were.
     pub fn add(&mut self, contract: Contract) -> Result<(), ContractFault>
         ensures done { OnOk result (after_contract self.old contract ≡ Ok self.new) }
-        ensures refused { (fault : ContractFault) → after_contract self.old contract ≡ Err fault → result ≡ Err fault }
-        ensures memory { IfErr result (λ fault. (after_contract self.old contract ≡ Err fault) ⊎ (fault ≡ ContractFault.OutOfMemory)) }
+        ensures refused { (fault : ContractFault) → after_contract self.old contract ≡ Err fault
+            → result ≡ Err fault }
+        ensures memory { IfErr result
+            (λ fault. (after_contract self.old contract ≡ Err fault)
+            ⊎ (fault ≡ ContractFault.OutOfMemory)) }
         ensures kept { OnErr result (self.new ≡ self.old) }
     {
         let name = contract.name;
         let terms = terms_of(contract);
         self.check(name, terms.service)?;
-        if self.terms.reserve(1).is_err() {
-            return Err(ContractFault::OutOfMemory);
-        }
+        self.terms.reserve(1)?;
         enter(&mut self.terms, name, terms);
         Ok(())
     }

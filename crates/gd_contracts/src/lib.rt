@@ -4,13 +4,18 @@
 mod class;
 mod contract;
 mod contracts;
+mod fault;
 
 pub use class::classes_are;
 pub use contract::{Contract, Service};
 pub use contracts::Contracts;
 use gd_system::RouteFault;
 
+/// How many contracts may be held on a pipeline (own limit).
+pub const MAX_CONTRACTS: usize = 4096;
+
 /// Why a contract is refused, the first reason in this order. A refused call leaves the contracts as they were.
+/// It is printed by its name, and a refusal of the route by its own.
 #[derive(Clone, Copy, Debug, PartialEq, Eq, Drop)]
 pub enum ContractFault {
     /// A contract of this name is there.
@@ -23,7 +28,7 @@ pub enum ContractFault {
     OutOfMemory,
 }
 
-/// Why a line has no class, the first reason in this order.
+/// Why a line has no class, the first reason in this order. It is printed by its name, and a refusal of the route by its own.
 #[derive(Clone, Copy, Debug, PartialEq, Eq, Drop)]
 pub enum ClassFault {
     /// There is no contract of this name.

@@ -1,3 +1,5 @@
+//! What a dekatherm is worth, by class and tenth.
+
 ghost use Rattle.std.specs.Prelude.{◌≡◌, ℕ, pos, neg_ℤ, ◌≤◌, IsTrue};
 ghost use Rattle.gd_rules.specs.Units.{NeverRises};
 ghost use Rattle.gd_rules.specs.Words.{at_class, listed};

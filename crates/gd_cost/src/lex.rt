@@ -1,3 +1,5 @@
+//! Lists of numbers, of which the first that differs decides.
+
 ghost use Rattle.std.specs.Prelude.{◌≡◌, ℕ, ℤ, ◌<◌, slice_get};
 ghost use Rattle.gd_rules.specs.Words.{words, words_fit, words_size, words_rank};
 ghost use Rattle.gd_rules.proofs.Words.{words_lawful};

@@ -1,3 +1,5 @@
+//! A single number.
+
 ghost use Rattle.std.specs.Prelude.{◌≡◌, ℤ};
 ghost use Rattle.gd_rules.specs.Words.{whole, word_fits, word_size, word_rank};
 ghost use Rattle.gd_rules.proofs.Words.{whole_lawful};

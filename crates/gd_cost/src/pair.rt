@@ -1,3 +1,5 @@
+//! Pairs of values, of which the first decides before the second.
+
 ghost use Rattle.std.specs.Prelude.{◌≡◌};
 ghost use Rattle.gd_rules.specs.Words.{both, both_fit, both_size, both_rank};
 ghost use Rattle.gd_rules.proofs.Words.{both_lawful};

@@ -1,3 +1,5 @@
+//! What makes a line.
+
 use gd_units::Name;
 use std::marker::Model;
 

@@ -13,5 +13,8 @@ pub use fault::LinesFault;
 pub use key::LineKey;
 pub use lines::Lines;
 
+/// How many lines a gas day may have (own limit).
+pub const MAX_LINES: usize = 20_000;
+
 #[cfg(test)]
 mod tests;

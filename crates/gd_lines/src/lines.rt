@@ -1,3 +1,5 @@
+//! The table of lines.
+
 ghost use Rattle.std.specs.Prelude.{◌≡◌, ℕ, ◌+◌, ◌-◌, ◌*◌, ◌==◌, ◌≢◌, nat_le, ◌<◌, ◌≤◌, ◌⊎◌, List, [], ◌∷◌, ◌++◌, length, get_or, map, filter, unwrap_or, take, All, IfOk, IfErr, OnOk, OnErr, Ok, Err, Some, if◌then◌else◌};
 ghost use Rattle.std.specs.Vec.{vec_len, vec_capacity};
 ghost use Rattle.indexmap.specs.IndexSet.{IsUnique, spare as key_spare};
@@ -7,8 +9,8 @@ ghost use Rattle.gd_rules.specs.Lines as rules;
 ghost use Rattle.gd_lines.specs.Kept.{no_state, blank};
 ghost use Rattle.gd_lines.specs.Numbered.{numbered, nomination};
 
-use crate::state::{Accepted, State, fill_from, nothing};
-use crate::{LineKey, LinesFault};
+use crate::state::{Accepted, State, fill_from};
+use crate::{LineKey, LinesFault, MAX_LINES};
 use gd_units::{Class, CycleNo, Dth, Name};
 use indexmap::{IndexMap, IndexSet};
 use std::alloc::{AllocError, Global};
@@ -27,7 +29,7 @@ pub struct Lines {
     // for each contract the sum of its lines' last quantities
     sums: IndexMap<Name, u64>,
     // how many lines are nominated until each cycle, from Timely
-    counts: [u32; 5],
+    counts: [u32; CycleNo::COUNT],
 }
 
 impl Model for Lines {
@@ -43,7 +45,7 @@ impl Model for Lines {
     ghost invariant = { IsKept };
 }
 
-// Makes room for one more nomination, on a line that may be new.
+/// Makes room for one more nomination, on a line that may be new.
 fn make_room(
     keys: &mut IndexSet<LineKey>,
     states: &mut Vec<State>,
@@ -66,7 +68,7 @@ fn make_room(
     sums.reserve(1)
 }
 
-// The number of a key's line. A new key goes last, in room that is there.
+/// The number of a key's line. A new key goes last, in room that is there.
 fn enter_key(keys: &mut IndexSet<LineKey>, key: LineKey) -> usize
     requires { 0 < key_spare keys.old }
     ensures keys { keys.new.keys ≡ rules.entered keys.old.keys key }
@@ -78,57 +80,73 @@ fn enter_key(keys: &mut IndexSet<LineKey>, key: LineKey) -> usize
     keys.insert_full(key).unwrap().0
 }
 
-// Enters the state of a new line, in room that is there.
+/// Enters the state of a new line, in room that is there.
 fn enter_state(states: &mut Vec<State>, line: usize, class: Class)
     requires { vec_len states.old < vec_capacity states.old }
-    ensures { states.new.items ≡ (if length states.old.items == line then states.old.items ++ blank class ∷ [] else states.old.items) }
+    ensures { states.new.items
+        ≡ (if length states.old.items == line
+        then states.old.items ++ blank class ∷ []
+        else states.old.items) }
 {
-    let none = nothing();
+    let none = Dth::ZERO;
     if states.len() == line {
         states.push(State::blank(class, none)).unwrap();
     }
 }
 
-// Notes what is nominated on a line for a cycle and the later ones, and answers what was nominated on it last.
+/// Notes what is nominated on a line for a cycle and the later ones, and answers what was nominated on it last.
 fn renominate(states: &mut Vec<State>, line: usize, cycle: CycleNo, quantity: Dth) -> Dth
     requires { line < length states.old.items }
     ensures sized { length states.new.items ≡ length states.old.items }
     ensures former { result ≡ get_or (get_or states.old.items line no_state).nominated 4 0 }
-    ensures others { (i : ℕ) → i ≢ line → get_or states.new.items i no_state ≡ get_or states.old.items i no_state }
-    ensures class { (get_or states.new.items line no_state).class ≡ (get_or states.old.items line no_state).class }
-    ensures quantities { (c : ℕ) → 1 ≤ c → c ≤ 5 → get_or (get_or states.new.items line no_state).nominated (c - 1) 0 ≡ (if nat_le cycle c then quantity else get_or (get_or states.old.items line no_state).nominated (c - 1) 0) }
+    ensures others { (i : ℕ) → i ≢ line
+        → get_or states.new.items i no_state ≡ get_or states.old.items i no_state }
+    ensures class { (get_or states.new.items line no_state).class
+        ≡ (get_or states.old.items line no_state).class }
+    ensures quantities { (c : ℕ) → 1 ≤ c → c ≤ CycleNo.MAX
+        → get_or (get_or states.new.items line no_state).nominated (c - 1) 0
+        ≡ (if nat_le cycle c then quantity
+        else get_or (get_or states.old.items line no_state).nominated (c - 1) 0) }
 {
     let former = states[line];
     states[line] = former.renominated(cycle, quantity);
     former.nominated[4]
 }
 
-// Changes a contract's sum by a line's new quantity, in room that is there.
+/// Changes a contract's sum by a line's new quantity, in room that is there.
 fn change_sum(sums: &mut IndexMap<Name, u64>, contract: Name, former: Dth, quantity: Dth)
     requires room { 0 < sum_spare sums.old }
     requires counted { former ≤ unwrap_or (get rules.same_name sums.old contract) 0 }
-    requires few { unwrap_or (get rules.same_name sums.old contract) 0 ≤ 20_000 * 1_000_000_000 }
-    ensures small { quantity ≤ 1_000_000_000 }
-    ensures changed { (other : List ℕ) → unwrap_or (get rules.same_name sums.new other) 0 ≡ (if rules.same_name contract other then unwrap_or (get rules.same_name sums.old contract) 0 - former + quantity else unwrap_or (get rules.same_name sums.old other) 0) }
+    requires few { unwrap_or (get rules.same_name sums.old contract) 0 ≤ MAX_LINES * Dth.MAX }
+    ensures small { quantity ≤ Dth.MAX }
+    ensures changed { (other : List ℕ)
+        → unwrap_or (get rules.same_name sums.new other) 0
+        ≡ (if rules.same_name contract other
+        then unwrap_or (get rules.same_name sums.old contract) 0 - former + quantity
+        else unwrap_or (get rules.same_name sums.old other) 0) }
 {
     let sum = sums.get(&contract).copied().unwrap_or(0);
     let changed = sum - former.get() + quantity.get();
     sums.insert(contract, changed).unwrap();
 }
 
-// Notes how many lines are nominated until a cycle and the later ones.
-fn count_until(counts: &mut [u32; 5], cycle: CycleNo, count: usize)
-    requires { count ≤ 20000 }
-    ensures in_day { cycle ≤ 5 }
-    ensures filled { (c : ℕ) → 1 ≤ c → c ≤ 5 → get_or counts.new (c - 1) 0 ≡ (if nat_le cycle c then count else get_or counts.old (c - 1) 0) }
+/// Notes how many lines are nominated until a cycle and the later ones.
+fn count_until(counts: &mut [u32; CycleNo::COUNT], cycle: CycleNo, count: usize)
+    requires { count ≤ MAX_LINES }
+    ensures in_day { cycle ≤ CycleNo.MAX }
+    ensures filled { (c : ℕ) → 1 ≤ c → c ≤ CycleNo.MAX
+        → get_or counts.new (c - 1) 0
+        ≡ (if nat_le cycle c then count else get_or counts.old (c - 1) 0) }
 {
     fill_from(counts, usize::from(cycle.number()) - 1, count as u32);
 }
 
-// Notes a nomination, in room that is there.
+/// Notes a nomination, in room that is there.
 fn note(accepted: &mut Vec<Accepted>, line: u32, cycle: CycleNo, class: Class, quantity: Dth)
     requires { vec_len accepted.old < vec_capacity accepted.old }
-    ensures { accepted.new.items ≡ accepted.old.items ++ (record { line = line; cycle = cycle; class = class; quantity = quantity }) ∷ [] }
+    ensures { accepted.new.items
+        ≡ accepted.old.items
+        ++ (record { line = line; cycle = cycle; class = class; quantity = quantity }) ∷ [] }
 {
     let nomination = Accepted {
         line,
@@ -139,13 +157,14 @@ fn note(accepted: &mut Vec<Accepted>, line: u32, cycle: CycleNo, class: Class, q
     accepted.push(nomination).unwrap();
 }
 
-// The nominations for one cycle.
+/// The nominations for one cycle.
 fn taken(
     alloc: Global,
     accepted: &[Accepted],
     cycle: CycleNo,
 ) -> Result<Vec<(u32, Dth)>, AllocError>
-    ensures { IfOk result (λ taken. taken.items ≡ map (λ a. (a.line, a.quantity)) (filter (λ a. a.cycle == cycle) accepted.now)) }
+    ensures { IfOk result (λ taken. taken.items
+        ≡ map (λ a. (a.line, a.quantity)) (filter (λ a. a.cycle == cycle) accepted.now)) }
 {
     accepted
         .iter()
@@ -164,7 +183,7 @@ impl Lines {
             states: Vec::new(alloc),
             accepted: Vec::new(alloc),
             sums: IndexMap::new(alloc),
-            counts: [0; 5],
+            counts: [0; CycleNo::COUNT],
         }
     }
 
@@ -176,7 +195,7 @@ impl Lines {
         match self.keys.get_index_of(&key) {
             Some(line) => Ok(line),
             None => {
-                if count >= 20_000 {
+                if count >= MAX_LINES {
                     Err(LinesFault::TooManyLines)
                 } else {
                     Ok(count)
@@ -200,23 +219,22 @@ impl Lines {
     ) -> Result<u32, LinesFault>
         requires { All (λ former. former.cycle ≤ cycle) self.old }
         ensures number { IfOk result (λ line. numbered self.old key ≡ Ok line) }
-        ensures done { OnOk result (self.new ≡ self.old ++ nomination key cycle class quantity ∷ []) }
+        ensures done { OnOk result
+            (self.new ≡ self.old ++ nomination key cycle class quantity ∷ []) }
         ensures found { IfOk result (λ line. rules.find self.new key ≡ Some line) }
-        ensures refused { (fault : LinesFault) → numbered self.old key ≡ Err fault → result ≡ Err fault }
-        ensures memory { IfErr result (λ fault. (numbered self.old key ≡ Err fault) ⊎ (fault ≡ LinesFault.OutOfMemory)) }
+        ensures refused { (fault : LinesFault) → numbered self.old key ≡ Err fault
+            → result ≡ Err fault }
+        ensures memory { IfErr result
+            (λ fault. (numbered self.old key ≡ Err fault) ⊎ (fault ≡ LinesFault.OutOfMemory)) }
         ensures kept { OnErr result (self.new ≡ self.old) }
     {
         let line = self.check_key(key)?;
-        if make_room(
+        make_room(
             &mut self.keys,
             &mut self.states,
             &mut self.accepted,
             &mut self.sums,
-        )
-        .is_err()
-        {
-            return Err(LinesFault::OutOfMemory);
-        }
+        )?;
         enter_key(&mut self.keys, key);
         enter_state(&mut self.states, line, class);
         let former = renominate(&mut self.states, line, cycle, quantity);
@@ -268,7 +286,7 @@ impl Lines {
     /// The sum of the last quantities of a contract's lines, in dekatherms a gas day.
     pub fn committed(&self, contract: Name) -> u64
         ensures is { result ≡ rules.committed self.now contract }
-        ensures small { result ≤ 20_000 * 1_000_000_000 }
+        ensures small { result ≤ MAX_LINES * Dth.MAX }
     {
         self.sums.get(&contract).copied().unwrap_or(0)
     }
@@ -283,7 +301,8 @@ impl Lines {
 
     /// The accepted nominations for one cycle, each with its line's number and its quantity, in order of acceptance.
     pub fn intake(&self, alloc: Global, cycle: CycleNo) -> Result<Vec<(u32, Dth)>, AllocError>
-        ensures { IfOk result (λ taken. map (λ e. (Some e.0, e.1)) taken.items ≡ rules.numbered_intake self.now cycle) }
+        ensures { IfOk result (λ taken.
+            map (λ e. (Some e.0, e.1)) taken.items ≡ rules.numbered_intake self.now cycle) }
     {
         taken(alloc, &self.accepted, cycle)
     }
@@ -292,9 +311,11 @@ impl Lines {
     /// finds it, and what is nominated on it for the last cycle is within the sum of its contract.
     pub fn known(&self)
         ensures rising { rules.IsRising self.now }
-        ensures few { length (rules.lines_of self.now) ≤ 20000 }
-        ensures found { (line : ℕ) → line < length (rules.lines_of self.now) → rules.find self.now (rules.line_key self.now line) ≡ Some line }
-        ensures within { (key : rules.Key) → rules.nominated self.now key 5 ≤ rules.committed self.now key.contract }
+        ensures few { length (rules.lines_of self.now) ≤ MAX_LINES }
+        ensures found { (line : ℕ) → line < length (rules.lines_of self.now)
+            → rules.find self.now (rules.line_key self.now line) ≡ Some line }
+        ensures within { (key : rules.Key)
+            → rules.nominated self.now key 5 ≤ rules.committed self.now key.contract }
     {
         let _keys = &self.keys;
     }

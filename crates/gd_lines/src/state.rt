@@ -1,3 +1,5 @@
+//! What is kept of lines and of accepted nominations.
+
 ghost use Rattle.std.specs.Prelude.{◌≡◌, ℕ, ◌-◌, ◌<◌, ◌≤◌, nat_le, length, get_or, if◌then◌else◌};
 
 use gd_units::{Class, CycleNo, Dth};
@@ -7,7 +9,7 @@ use gd_units::{Class, CycleNo, Dth};
 pub(crate) struct State {
     pub(crate) class: Class,
     // for each cycle, from Timely
-    pub(crate) nominated: [Dth; 5],
+    pub(crate) nominated: [Dth; CycleNo::COUNT],
 }
 
 /// What is kept of an accepted nomination.
@@ -21,20 +23,11 @@ pub(crate) struct Accepted {
 
 /// Writes a value at each place from one on.
 pub(crate) fn fill_from<T: Copy>(values: &mut [T], from: usize, value: T)
-    ensures { (k : ℕ) (d : T) → k < length values.old → get_or values.new k d ≡ (if nat_le from k then value else get_or values.old k d) }
+    ensures { (k : ℕ) (d : T) → k < length values.old
+        → get_or values.new k d ≡ (if nat_le from k then value else get_or values.old k d) }
 {
     for i in from..values.len() {
         values[i] = value;
-    }
-}
-
-/// The quantity 0.
-pub(crate) fn nothing() -> Dth
-    ensures { result ≡ 0 }
-{
-    match Dth::new(0) {
-        Ok(none) => none,
-        Err(_) => unreachable!(),
     }
 }
 
@@ -48,14 +41,16 @@ impl State {
     {
         State {
             class,
-            nominated: [none; 5],
+            nominated: [none; CycleNo::COUNT],
         }
     }
 
     /// The line after one more nomination, for this cycle and the later ones.
     pub(crate) fn renominated(self, cycle: CycleNo, quantity: Dth) -> State
         ensures class { result.class ≡ self.class }
-        ensures quantities { (c : ℕ) → 1 ≤ c → c ≤ 5 → get_or result.nominated (c - 1) 0 ≡ (if nat_le cycle c then quantity else get_or self.nominated (c - 1) 0) }
+        ensures quantities { (c : ℕ) → 1 ≤ c → c ≤ CycleNo.MAX
+            → get_or result.nominated (c - 1) 0
+            ≡ (if nat_le cycle c then quantity else get_or self.nominated (c - 1) 0) }
     {
         let mut nominated = self.nominated;
         fill_from(&mut nominated, usize::from(cycle.number()) - 1, quantity);

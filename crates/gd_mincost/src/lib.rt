@@ -10,6 +10,3 @@ mod walk;
 
 pub use best::{Best, settle, settle_from};
 pub use still::show_best;
-
-#[cfg(test)]
-mod tests;

@@ -1,5 +1,6 @@
 -- What the fields of a question stand for.
 use Rattle.std.specs.Prelude.{◌≡◌, ℕ, ◌+◌, ◌<◌, ◌≤◌, map, length, get_or}
+use Rattle.gd_rules.specs.Limits.{most_lines}
 use Rattle.gd_system.specs.Pipeline.{elements_of}
 use Rattle.gd_system.specs.Known.{IsSystem}
 use Rattle.gd_question.specs.Posed.{Posed}
@@ -21,5 +22,5 @@ posed_of q = record {
 pub record IsSound (q : Inside) : Type 0 where
   pub system : IsSystem q.system
   pub limited : length q.capacities.items ≡ length q.system.tree + length q.system.points
-  pub few : length q.rows.items ≤ 20000
+  pub few : length q.rows.items ≤ most_lines
   pub rows : (i : ℕ) (row : Row) → i < length q.rows.items → row ≡ get_or q.rows.items i row → IsRow q.system row

@@ -1,5 +1,6 @@
 pub mod Posed
 pub mod Known
+pub mod Names
 pub mod InForce
 pub mod Rows
 pub mod Inside

@@ -2,6 +2,7 @@
 use Rattle.std.specs.Prelude.{ℕ, ◌==◌, ◌||◌, nat_le, nat_lt, List, [], ◌∷◌, ◌++◌, length, set, get_or, Option, Some, None, if◌then◌else◌, Result, Ok, Err}
 use Rattle.gd_rules.specs.Question as rules
 use Rattle.gd_rules.specs.Question.Element.{Segment as segment, Receipt as receipt, Delivery as delivery, Pool as pool}
+use Rattle.gd_rules.specs.Limits.{classes, most_lines}
 use Rattle.gd_tree.specs.Grown.{route_of}
 use Rattle.gd_system.specs.Pipeline.{Pipeline, elements_of}
 use Rattle.gd_system.specs.Route.{ends_of}
@@ -49,8 +50,8 @@ abbrev pub line_within : ℕ → ℕ → ℕ → ℕ → Result Ends RouteFault 
 line_within count class floor ceiling (Err fault) = Err (Route fault)
 line_within count class floor ceiling (Ok ends) =
     if nat_lt ceiling floor then Err FloorAboveCeiling
-    else if (class == 0) || nat_lt 8 class then Err BadClass
-    else if nat_le 20000 count then Err TooMany
+    else if (class == 0) || nat_lt classes class then Err BadClass
+    else if nat_le most_lines count then Err TooMany
     else Ok ends
 
 -- The first refusal of a line, or its ends.

@@ -1,6 +1,7 @@
 -- Lines in memory.
 use Rattle.std.specs.Prelude.{◌≡◌, ℕ, ◌+◌, ◌<◌, ◌≤◌, List, length, get_or, Some}
 use Rattle.gd_rules.specs.Question as rules
+use Rattle.gd_rules.specs.Limits.{classes}
 use Rattle.gd_system.specs.Pipeline.{Pipeline}
 use Rattle.gd_system.specs.Route.{AreEnds, element_at}
 use Rattle.gd_system.specs.declared.part.Ends.{Ends}
@@ -18,7 +19,7 @@ line_of p row = line_between p row.ends row.class row.floor row.ceiling
 pub record IsRow (p : Pipeline) (row : Row) : Type 0 where
   pub ends : AreEnds p row.ends
   pub bounds : row.floor ≤ row.ceiling
-  pub classed : (1 ≤ row.class) × (row.class ≤ 8)
+  pub classed : (1 ≤ row.class) × (row.class ≤ classes)
 
 -- The pipeline's own capacities, of its segments and points.
 pub record AreOwn (p : Pipeline) (limits : List ℕ) : Type 0 where

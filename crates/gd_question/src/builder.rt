@@ -1,3 +1,5 @@
+//! Questions in the making.
+
 ghost use Rattle.std.specs.Prelude.{◌≡◌, Ok, Err, IfOk, IfErr, OnOk, OnErr, ◌⊎◌};
 ghost use Rattle.gd_question.specs.Posed.{after_capacity, after_line, posed};
 
@@ -40,7 +42,8 @@ impl QuestionBuilder {
     /// Sets the capacity in force of a segment or a point, in dekatherms a gas day. Of two calls for one element the later one holds.
     pub fn capacity(&mut self, element: Element, capacity: Dth) -> Result<(), CapacityFault>
         ensures done { OnOk result (after_capacity self.old element.0 capacity ≡ Ok self.new) }
-        ensures refused { IfErr result (λ fault. after_capacity self.old element.0 capacity ≡ Err fault) }
+        ensures refused { IfErr result
+            (λ fault. after_capacity self.old element.0 capacity ≡ Err fault) }
         ensures kept { OnErr result (self.new ≡ self.old) }
     {
         self.question.set_capacity(element, capacity)
@@ -55,17 +58,19 @@ impl QuestionBuilder {
         floor: Dth,
         ceiling: Dth,
     ) -> Result<(), LineFault>
-        ensures done { OnOk result (after_line self.old origin dest class floor ceiling ≡ Ok self.new) }
-        ensures refused { (fault : LineFault) → after_line self.old origin dest class floor ceiling ≡ Err fault → result ≡ Err fault }
-        ensures memory { IfErr result (λ fault. (after_line self.old origin dest class floor ceiling ≡ Err fault) ⊎ (fault ≡ LineFault.OutOfMemory)) }
+        ensures done { OnOk result
+            (after_line self.old origin dest class floor ceiling ≡ Ok self.new) }
+        ensures refused { (fault : LineFault)
+            → after_line self.old origin dest class floor ceiling ≡ Err fault → result ≡ Err fault }
+        ensures memory { IfErr result
+            (λ fault. (after_line self.old origin dest class floor ceiling ≡ Err fault)
+            ⊎ (fault ≡ LineFault.OutOfMemory)) }
         ensures kept { OnErr result (self.new ≡ self.old) }
     {
         let row = self
             .question
             .check_line(origin, dest, class, floor, ceiling)?;
-        if self.question.push_row(row).is_err() {
-            return Err(LineFault::OutOfMemory);
-        }
+        self.question.push_row(row)?;
         Ok(())
     }
 

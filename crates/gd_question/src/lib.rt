@@ -10,5 +10,5 @@ pub use fault::{CapacityFault, LineFault};
 pub use gd_system::{Element, Part, PlaceId};
 pub use question::Question;
 
-#[cfg(test)]
-mod tests;
+/// How many lines a question may have (own limit).
+pub const MAX_LINES: usize = 20_000;

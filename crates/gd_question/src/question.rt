@@ -1,3 +1,5 @@
+//! Questions, with all that can be read of them.
+
 ghost use Rattle.std.specs.Prelude.{◌≡◌, ◌↔◌, IsTrue, ◌+◌, ◌<◌, ◌==◌, Some, None, Ok, Err, length, slice_get, Option, Result, IfOk, OnOk, OnErr, MatchResult, if◌then◌else◌};
 ghost use Rattle.std.specs.List.{count_by};
 ghost use Rattle.gd_rules.specs.Question.{line, element as asked_element};
@@ -7,7 +9,7 @@ ghost use Rattle.gd_question.specs.Posed.{with_limit, after_capacity, checked_li
 ghost use Rattle.gd_question.specs.Rows.{IsRow, ends_of_row, AreOwn};
 ghost use Rattle.gd_system.specs.Pipeline.{element_of, names_of};
 
-use crate::{CapacityFault, LineFault};
+use crate::{CapacityFault, LineFault, MAX_LINES};
 use gd_system::{Element, Ends, Part, System};
 use gd_units::{Class, CycleNo, Dth, Name, Round};
 use std::alloc::{AllocError, Global};
@@ -88,12 +90,14 @@ pub(crate) fn capacities_of(alloc: Global, system: &System) -> Result<Vec<Dth>, 
     Ok(limits)
 }
 
+/// Whether both lists have the same capacities in the same order.
 fn same_capacities(a: &[Dth], b: &[Dth]) -> bool
     ensures { IsTrue result ↔ (a.now ≡ b.now) }
 {
     a == b
 }
 
+/// Whether both have the same lines in the same order.
 fn same_rows(a: &[Row], b: &[Row]) -> bool
     ensures { IsTrue result ↔ (a.now ≡ b.now) }
 {
@@ -122,13 +126,15 @@ impl Question {
         })
     }
 
+    /// Sets the capacity in force of a segment or a point.
     pub(crate) fn set_capacity(
         &mut self,
         element: Element,
         capacity: Dth,
     ) -> Result<(), CapacityFault>
         ensures done { OnOk result (after_capacity self.old element.0 capacity ≡ Ok self.new) }
-        ensures refused { MatchResult result (λ _. capacity_fault self.old element.0 ≡ None) (λ fault. (capacity_fault self.old element.0 ≡ Some fault) × (self.new ≡ self.old)) }
+        ensures refused { MatchResult result (λ _. capacity_fault self.old element.0 ≡ None)
+            (λ fault. (capacity_fault self.old element.0 ≡ Some fault) × (self.new ≡ self.old)) }
     {
         if element.0 >= self.system.element_count() {
             return Err(CapacityFault::UnknownElement);
@@ -149,21 +155,22 @@ impl Question {
         floor: Dth,
         ceiling: Dth,
     ) -> Result<Row, LineFault>
-        ensures row { MatchResult result (λ row. (checked_line self.now origin dest class floor ceiling ≡ Ok (ends_of_row row)) × IsRow self.now.pipeline row) (λ fault. checked_line self.now origin dest class floor ceiling ≡ Err fault) }
-        ensures told { IfOk result (λ row. (row.class ≡ class) × (row.floor ≡ floor) × (row.ceiling ≡ ceiling)) }
-        ensures few { OnOk result (length self.now.asked.lines < 20000) }
+        ensures row { MatchResult result
+            (λ row. (checked_line self.now origin dest class floor ceiling ≡ Ok (ends_of_row row))
+            × IsRow self.now.pipeline row)
+            (λ fault. checked_line self.now origin dest class floor ceiling ≡ Err fault) }
+        ensures told { IfOk result
+            (λ row. (row.class ≡ class) × (row.floor ≡ floor) × (row.ceiling ≡ ceiling)) }
+        ensures few { OnOk result (length self.now.asked.lines < MAX_LINES) }
     {
-        let ends = match self.system.ends(origin, dest) {
-            Ok(ends) => ends,
-            Err(fault) => return Err(LineFault::Route(fault)),
-        };
+        let ends = self.system.ends(origin, dest)?;
         if ceiling.get() < floor.get() {
             return Err(LineFault::FloorAboveCeiling);
         }
         let Some(class) = Class::new(class) else {
             return Err(LineFault::BadClass);
         };
-        if self.rows.len() >= 20_000 {
+        if self.rows.len() >= MAX_LINES {
             return Err(LineFault::TooMany);
         }
         Ok(Row {
@@ -174,10 +181,12 @@ impl Question {
         })
     }
 
+    /// Adds a line that passed the check, last.
     pub(crate) fn push_row(&mut self, row: Row) -> Result<(), AllocError>
         requires sound { IsRow self.old.pipeline row }
-        requires few { length self.old.asked.lines < 20000 }
-        ensures pushed { OnOk result (self.new ≡ with_line self.old (ends_of_row row) row.class row.floor row.ceiling) }
+        requires few { length self.old.asked.lines < MAX_LINES }
+        ensures pushed { OnOk result
+            (self.new ≡ with_line self.old (ends_of_row row) row.class row.floor row.ceiling) }
         ensures kept { OnErr result (self.new ≡ self.old) }
     {
         self.rows.push(row)?;
@@ -251,6 +260,7 @@ impl Question {
         self.book
     }
 
+    /// The cycle that it is asked for.
     pub fn cycle(&self) -> CycleNo
         ensures { result ≡ self.now.cycle }
     {
@@ -264,18 +274,21 @@ impl Question {
         self.round
     }
 
+    /// How many lines there are.
     pub fn line_count(&self) -> usize
         ensures { result ≡ length self.now.asked.lines }
     {
         self.rows.len()
     }
 
+    /// How many segments, points and pools there are.
     pub fn element_count(&self) -> usize
         ensures { result ≡ length self.now.asked.elements }
     {
         self.system.element_count()
     }
 
+    /// The line's priority class.
     pub fn class(&self, at: usize) -> Class
         requires { at < length self.now.asked.lines }
         ensures { result ≡ (line self.now.asked at).class }
@@ -299,6 +312,7 @@ impl Question {
         self.rows[at].ceiling
     }
 
+    /// Where the line's gas comes from: a receipt point or a pool.
     pub fn origin(&self, at: usize) -> Element
         requires { at < length self.now.asked.lines }
         ensures { result.0 ≡ (line self.now.asked at).origin }
@@ -306,6 +320,7 @@ impl Question {
         self.rows[at].ends.origin
     }
 
+    /// Where it goes to: a delivery point or a pool.
     pub fn dest(&self, at: usize) -> Element
         requires { at < length self.now.asked.lines }
         ensures { result.0 ≡ (line self.now.asked at).dest }
@@ -337,7 +352,8 @@ impl Question {
     pub fn passes(&self, at: usize, segment: Element) -> bool
         requires known { at < length self.now.asked.lines }
         requires few { segment.0 < length self.now.asked.elements }
-        ensures { (if result then 1 else 0) ≡ count_by (λ k. k == segment.0) (line self.now.asked at).route }
+        ensures { (if result then 1 else 0) ≡ count_by (λ k. k == segment.0)
+            (line self.now.asked at).route }
     {
         self.system.known();
         let ends = self.rows[at].ends;

@@ -1,15 +1,15 @@
 -- The definitions at worked examples.
-use Rattle.std.proofs.Common.{true, false, ◌≡◌, ℕ, suc, zero, ◌+◌, ◌<◌, ◌≤◌, List, [], ◌∷◌, refl, arith, lit<, lit≤}
-use Rattle.std.specs.Prelude.{ℤ, pos, negsuc, ◌≤ℤ◌}
-use Rattle.std.proofs.Common.{inr}
+use Rattle.std.proofs.Common.{true, false, ◌≡◌, ℕ, suc, zero, ◌+◌, ◌^◌, ◌<◌, ◌≤◌, List, [], ◌∷◌, refl, arith, lit<, lit≤}
+use Rattle.std.specs.Prelude.{ℤ, pos, negsuc, ◌≤ℤ◌, ◌<ℤ◌}
+use Rattle.std.proofs.Common.{inl, inr}
 use Rattle.std.proofs.lemmas.Int.{ints}
 use Rattle.gd_rules.specs.Class.{Service, Firm, Interruptible, class_of}
 use lib.Signed.{le_z_yes}
 use Rattle.std.specs.declared.cmp.Ordering.TheVariants.{Less, Equal, Greater}
 use Rattle.gd_rules.specs.Question.{Question, element, line}
 use Rattle.gd_rules.specs.Question.Element.{Segment, Receipt, Delivery, Pool}
-use Rattle.gd_rules.specs.Schedule.{IsAllowed, Holds, load, class_total, quantity}
-use Rattle.gd_rules.specs.Spread.{class_weight, line_weight, tenth_of}
+use Rattle.gd_rules.specs.Schedule.{IsAllowed, HasBetterTotals, Holds, load, class_total, quantity}
+use Rattle.gd_rules.specs.Spread.{class_weight, line_weight, tenth_of, tenth_end}
 use Rattle.gd_rules.specs.Priced.{IsPriced, Clears, price, margin}
 use Rattle.gd_rules.specs.Scale.{AtMost}
 use Rattle.gd_rules.specs.Tree.{IsLine, HasLines}
@@ -20,7 +20,7 @@ use Rattle.gd_rules.specs.Words.{words_order, words_fit, tariff, tariff_unit, at
 use Rattle.gd_rules.specs.Tariff.{IsSmall, IsPricedByTariff}
 use Rattle.std.proofs.Common.{Bool, ◌≢◌, ◌==◌, subst, sym}
 use Rattle.std.proofs.lemmas.Bool.{eqb-true, eqb-false}
-use Rattle.gd_rules.specs.Cut.{excess, Side}
+use Rattle.gd_rules.specs.Cut.{excess, IsCut, Side}
 
 -- what holds of 0, 1 and so on below n
 abbrev Below : (ℕ → Type 0) → ℕ → Type 0
@@ -230,3 +230,51 @@ one-tariff = record {
 -- so no schedule of the first question is better
 one-best : IsBest one (80 ∷ 20 ∷ [])
 one-best = prices_show_best one (80 ∷ 20 ∷ []) price_one one-allowed one-priced
+
+-- ---- the opposite, where a premise of a law is missing
+
+-- with a floor above 0 a set is a cut, so that none is one only where there is no floor
+held-cut : IsCut (held 40) all_but_pool
+unfolding held all_but_pool
+held-cut = let more : pos 0 <ℤ pos 60 = omega (arith, ints) in more
+
+-- and the zeros aren't allowed: line 1 is below its floor
+held-zeros : IsAllowed (held 40) (0 ∷ 0 ∷ []) → ⊥
+unfolding held
+held-zeros h = let low : 100 ≤ 0 = h.floors 0 (lit< tt) in omega arith
+
+-- nor are the floors, by which 60 dekatherms more go into the pool than come out of it
+held-unbalanced : IsAllowed (held 40) (100 ∷ 40 ∷ []) → ⊥
+unfolding held
+held-unbalanced h = let level : pos 60 ≡ pos 0 = h.loads 3 (lit< tt) in omega (arith, ints)
+
+-- 80 of class 1 and 20 of class 4 are better by totals than 79 and 21, though both come to 100
+one-totals : HasBetterTotals one (80 ∷ 20 ∷ []) (79 ∷ 21 ∷ [])
+unfolding one
+one-totals = (1, lit≤ tt, lit≤ tt, (λ c low high. absurd (omega arith)), lit< tt)
+
+one-better : IsBetter one (80 ∷ 20 ∷ []) (79 ∷ 21 ∷ [])
+one-better = inl one-totals
+
+-- so the worse one isn't best
+one-worse : IsBest one (79 ∷ 21 ∷ []) → ⊥
+one-worse h = h.1 (80 ∷ 20 ∷ []) one-allowed one-better
+
+-- where the segment isn't full, a price above zero doesn't clear
+one-slack : IsPriced tariff tariff_unit one (80 ∷ 10 ∷ []) price_one → ⊥
+unfolding one price_one words_order
+one-slack h = let full : pos 90 ≡ pos 100 = (h.clears 0 (lit< tt)).0 refl in omega (arith, ints)
+
+-- at a price of 0 throughout line 2 would gain by its next dekatherm
+one-free : IsPriced tariff tariff_unit one (80 ∷ 20 ∷ []) (tariff.none ∷ tariff.none ∷ tariff.none ∷ []) → ⊥
+unfolding one words_order
+one-free h = h.next 1 (lit< tt) (lit< tt) refl
+
+-- a number of 2^40 + 1 is too large for a price
+too-large : IsSmall (at_class 1 (pos (2 ^ 40 + 1))) → ⊥
+unfolding words_fit
+too-large h = cc
+
+-- an eleventh tenth would begin after the ceiling: dekatherm 51 of a ceiling of 50 lies in tenth 10 still
+no-eleventh : (tenth_of 50 51 ≡ 10) × (tenth_end 50 11 ≡ 55)
+no-eleventh = (refl, refl)

@@ -1,9 +1,10 @@
 -- Questions with the first classes alone, and costs with as many words.
-use Rattle.std.specs.Prelude.{◌≡◌, true, ℕ, ◌+◌, ◌^◌, ◌<◌, ◌≤◌, ℤ, pos, List, length, map, ◌==◌, if◌then◌else◌}
+use Rattle.std.specs.Prelude.{◌≡◌, true, ℕ, ◌+◌, ◌<◌, ◌≤◌, ℤ, pos, List, length, map, ◌==◌, if◌then◌else◌}
 use Rattle.gd_rules.specs.Question.{Question, line}
 use Rattle.gd_rules.specs.Schedule.{IsAllowed, class_total}
 use Rattle.gd_rules.specs.Priced.{IsPriced, price}
 use Rattle.gd_rules.specs.Words.{first, words, words_fit}
+use Rattle.gd_rules.specs.Limits.{most_price_word}
 
 -- Each line's class is from 1 to n.
 abbrev pub HasClasses : ℕ → Question → Type 0
@@ -23,7 +24,7 @@ unit_among n class tenth = first n (λ k. if class == k + 1 then pos 1 else pos 
 
 -- Prices of n words, each at most 2^40 in size, at which the schedule clears by classes 1 to n.
 pub record IsPricedAmong (n : ℕ) (q : Question) (schedule : List ℕ) (prices : List (ℕ → ℤ)) : Type 0 where
-  pub small : (e : ℕ) → e < length prices → words_fit n (pos (2 ^ 40)) (price (words n) prices e) ≡ true
+  pub small : (e : ℕ) → e < length prices → words_fit n (pos most_price_word) (price (words n) prices e) ≡ true
   pub priced : IsPriced (words n) (unit_among n) q schedule prices
 
 -- Prices of n words, with zeros added.

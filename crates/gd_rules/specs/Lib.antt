@@ -1,3 +1,4 @@
+pub mod Limits
 pub mod Sum
 pub mod Scale
 pub mod Question

@@ -3,6 +3,7 @@ use Rattle.std.specs.Prelude.{◌≡◌, ℕ, ◌<◌, ◌≤◌, ℤ, pos, ◌*
 use Rattle.gd_rules.specs.Sum.{sum_nat, sum_int}
 use Rattle.gd_rules.specs.Question.{Element, Question, element, line, crossing}
 use Rattle.gd_rules.specs.Question.Element.{Segment, Receipt, Delivery, Pool}
+use Rattle.gd_rules.specs.Limits.{classes}
 
 -- A schedule is a quantity for each line.
 abbrev pub quantity : List ℕ → ℕ → ℕ
@@ -32,4 +33,4 @@ class_total q schedule class = sum_nat (length q.lines) (λ i. if (line q i).cla
 
 -- At the first class where the totals of a and b differ, that of a is the greater.
 abbrev pub HasBetterTotals : Question → List ℕ → List ℕ → Type 0
-HasBetterTotals q a b = (class : ℕ) × (1 ≤ class) × (class ≤ 8) × ((c : ℕ) → 1 ≤ c → c < class → class_total q a c ≡ class_total q b c) × (class_total q b class < class_total q a class)
+HasBetterTotals q a b = (class : ℕ) × (1 ≤ class) × (class ≤ classes) × ((c : ℕ) → 1 ≤ c → c < class → class_total q a c ≡ class_total q b c) × (class_total q b class < class_total q a class)

@@ -4,14 +4,15 @@ use Rattle.std.specs.Prelude.{◌≡◌, ℕ, ◌+◌, ◌*◌, ◌/◌, ◌<◌
 use Rattle.gd_rules.specs.Sum.{sum_nat}
 use Rattle.gd_rules.specs.Question.{Line, Question, line}
 use Rattle.gd_rules.specs.Schedule.{quantity, class_total, HasBetterTotals, IsAllowed}
+use Rattle.gd_rules.specs.Limits.{classes, tenths}
 
 -- The last dekatherm of the tenth j of a ceiling.
 abbrev pub tenth_end : ℕ → ℕ → ℕ
-tenth_end ceiling j = ceiling * j / 10
+tenth_end ceiling j = ceiling * j / tenths
 
 -- The tenth in which dekatherm d lies: how many of the tenths 0 to 9 end below it.
 abbrev pub tenth_of : ℕ → ℕ → ℕ
-tenth_of ceiling d = sum_nat 10 (λ j. if nat_lt (tenth_end ceiling j) d then 1 else 0)
+tenth_of ceiling d = sum_nat tenths (λ j. if nat_lt (tenth_end ceiling j) d then 1 else 0)
 
 -- Each of a line's dekatherms weighs its tenth.
 abbrev pub line_weight : Line → ℕ → ℕ
@@ -23,8 +24,8 @@ class_weight q schedule class = sum_nat (length q.lines) (λ i. if (line q i).cl
 -- Class totals are equal, and at the first class where the sums of weights differ, that of a is the less.
 abbrev pub HasBetterSpread : Question → List ℕ → List ℕ → Type 0
 HasBetterSpread q a b =
-    ((c : ℕ) → 1 ≤ c → c ≤ 8 → class_total q a c ≡ class_total q b c)
-    × ((class : ℕ) × (1 ≤ class) × (class ≤ 8) × ((c : ℕ) → 1 ≤ c → c < class → class_weight q a c ≡ class_weight q b c) × (class_weight q a class < class_weight q b class))
+    ((c : ℕ) → 1 ≤ c → c ≤ classes → class_total q a c ≡ class_total q b c)
+    × ((class : ℕ) × (1 ≤ class) × (class ≤ classes) × ((c : ℕ) → 1 ≤ c → c < class → class_weight q a c ≡ class_weight q b c) × (class_weight q a class < class_weight q b class))
 
 -- The tariff's order of schedules: class totals decide, and the spread where all of them are equal.
 abbrev pub IsBetter : Question → List ℕ → List ℕ → Type 0

@@ -4,6 +4,7 @@ use Rattle.std.specs.Prelude.{◌≡◌, ◌≢◌, ℕ, ◌<◌, ◌≤◌, Lis
 use Rattle.std.specs.List.{IsDistinct}
 use Rattle.gd_rules.specs.Question.{Element, Line, Question, element, line}
 use Rattle.gd_rules.specs.Question.Element.{Segment, Receipt, Delivery, Pool}
+use Rattle.gd_rules.specs.Limits.{classes}
 
 -- The segment leads from a to b.
 abbrev pub LeadsTo : Element → ℕ → ℕ → Type 0
@@ -65,7 +66,7 @@ pub record IsLine (q : Question) (l : Line) : Type 0 where
   pub apart : l.origin ≢ l.dest
   pub routed : HasItsRoute q l
   pub bounds : l.floor ≤ l.ceiling
-  pub classed : (1 ≤ l.class) × (l.class ≤ 8)
+  pub classed : (1 ≤ l.class) × (l.class ≤ classes)
 
 -- Each line leads from one end to another, over its route.
 abbrev pub HasLines : Question → Type 0

@@ -1,3 +1,4 @@
+pub mod Names
 pub mod Small
 pub mod First
 pub mod Table

@@ -5,13 +5,14 @@ use Rattle.std.specs.declared.cmp.Ordering.TheVariants.{Less, Equal, Greater}
 use Rattle.gd_rules.specs.Question.{Question}
 use Rattle.gd_rules.specs.Schedule.{class_total}
 use Rattle.gd_rules.specs.Spread.{IsBetter}
+use Rattle.gd_rules.specs.Limits.{classes}
 
 -- At the first class where f a and f b differ, f a is the greater.
 abbrev pub IsFirstGreater : (ℕ → ℕ) → (ℕ → ℕ) → Type 0
-IsFirstGreater f g = (class : ℕ) × (1 ≤ class) × (class ≤ 8) × ((c : ℕ) → 1 ≤ c → c < class → f c ≡ g c) × (g class < f class)
+IsFirstGreater f g = (class : ℕ) × (1 ≤ class) × (class ≤ classes) × ((c : ℕ) → 1 ≤ c → c < class → f c ≡ g c) × (g class < f class)
 
 abbrev pub AreLevel : (ℕ → ℕ) → (ℕ → ℕ) → Type 0
-AreLevel f g = (c : ℕ) → 1 ≤ c → c ≤ 8 → f c ≡ g c
+AreLevel f g = (c : ℕ) → 1 ≤ c → c ≤ classes → f c ≡ g c
 
 -- Eight numbers on either side, compared from class 1 on.
 abbrev pub IsOrderOf : (ℕ → ℕ) → (ℕ → ℕ) → Ordering → Type 0
@@ -26,8 +27,8 @@ pub record Compares (q : Question) (a b : List ℕ) (order : Ordering) : Type 0 
 
 -- A number for each of the classes 1 to 8, in their order.
 pub record IsByClass (f : ℕ → ℕ) (numbers : List ℕ) : Type 0 where
-  pub sized : length numbers ≡ 8
-  pub each : (class : ℕ) → 1 ≤ class → class ≤ 8 → get_or numbers (class - 1) 0 ≡ f class
+  pub sized : length numbers ≡ classes
+  pub each : (class : ℕ) → 1 ≤ class → class ≤ classes → get_or numbers (class - 1) 0 ≡ f class
 
 -- The totals of classes 1 to 8, in their order.
 abbrev pub HasTotals : Question → List ℕ → List ℕ → Type 0

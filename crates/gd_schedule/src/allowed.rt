@@ -16,7 +16,8 @@ use std::alloc::Global;
 /// The first line below its floor.
 fn first_below(question: &Question, schedule: &Schedule) -> Option<usize>
     requires { length schedule.now ≡ length question.now.asked.lines }
-    ensures { FoundFirst (length question.now.asked.lines) (KeepsFloor question.now.asked schedule.now) result }
+    ensures { FoundFirst (length question.now.asked.lines)
+        (KeepsFloor question.now.asked schedule.now) result }
 {
     for line in 0..question.line_count() {
         if schedule.quantity(line) < question.floor(line) {
@@ -29,7 +30,8 @@ fn first_below(question: &Question, schedule: &Schedule) -> Option<usize>
 /// The first line above its ceiling.
 fn first_above(question: &Question, schedule: &Schedule) -> Option<usize>
     requires { length schedule.now ≡ length question.now.asked.lines }
-    ensures { FoundFirst (length question.now.asked.lines) (KeepsCeiling question.now.asked schedule.now) result }
+    ensures { FoundFirst (length question.now.asked.lines)
+        (KeepsCeiling question.now.asked schedule.now) result }
 {
     for line in 0..question.line_count() {
         if schedule.quantity(line) > question.ceiling(line) {
@@ -42,7 +44,9 @@ fn first_above(question: &Question, schedule: &Schedule) -> Option<usize>
 /// The first segment or point with more load than capacity.
 fn first_over(question: &Question, loads: &[i64]) -> Option<usize>
     requires { length loads.now ≡ length question.now.asked.elements }
-    ensures { FoundFirst (length question.now.asked.elements) (λ e. WithinLimit (limit_of (asked_element question.now.asked e)) (get_or loads.now e (pos 0))) result }
+    ensures { FoundFirst (length question.now.asked.elements)
+        (λ e. WithinLimit (limit_of (asked_element question.now.asked e))
+        (get_or loads.now e (pos 0))) result }
 {
     for element in 0..question.element_count() {
         if let Some(capacity) = question.limit(Element(element))
@@ -57,7 +61,9 @@ fn first_over(question: &Question, loads: &[i64]) -> Option<usize>
 /// The first pool from which more or less is taken than is brought.
 fn first_unbalanced(question: &Question, loads: &[i64]) -> Option<usize>
     requires { length loads.now ≡ length question.now.asked.elements }
-    ensures { FoundFirst (length question.now.asked.elements) (λ e. IsBalanced (limit_of (asked_element question.now.asked e)) (get_or loads.now e (pos 0))) result }
+    ensures { FoundFirst (length question.now.asked.elements)
+        (λ e. IsBalanced (limit_of (asked_element question.now.asked e))
+        (get_or loads.now e (pos 0))) result }
 {
     for element in 0..question.element_count() {
         if question.limit(Element(element)).is_none() && loads[element] != 0 {
@@ -71,7 +77,9 @@ impl Schedule {
     /// Checks that there is one quantity for each line, between its floor and its ceiling. It tells the first fault of these kinds, and takes no memory.
     pub fn bounded(&self, question: &Question) -> Result<(), Broken>
         ensures passes { OnOk result (Bounded question.now.asked self.now) }
-        ensures fault { IfErr result (λ broken. (broken ≢ Broken.OutOfMemory) × Explains question.now.asked self.now broken) }
+        ensures fault { IfErr result
+            (λ broken. (broken ≢ Broken.OutOfMemory)
+            × Explains question.now.asked self.now broken) }
     {
         if self.len() != question.line_count() {
             return Err(Broken::Shape);
@@ -90,7 +98,9 @@ impl Schedule {
         requires bounded { Bounded question.now.asked self.now }
         requires table { IsTable question.now.asked self.now loads.now }
         ensures passes { OnOk result (IsAllowed question.now.asked self.now) }
-        ensures fault { IfErr result (λ broken. (broken ≢ Broken.OutOfMemory) × Explains question.now.asked self.now broken) }
+        ensures fault { IfErr result
+            (λ broken. (broken ≢ Broken.OutOfMemory)
+            × Explains question.now.asked self.now broken) }
     {
         if let Some(element) = first_over(question, loads) {
             return Err(Broken::OverCapacity(Element(element)));
@@ -108,16 +118,9 @@ impl Schedule {
         ensures passes { OnOk result (IsAllowed question.now.asked self.now) }
         ensures fault { IfErr result (Explains question.now.asked self.now) }
     {
-        if let Err(broken) = self.bounded(question) {
-            return Err(broken);
-        }
-        let Ok(loads) = load_table(alloc, question, self) else {
-            return Err(Broken::OutOfMemory);
-        };
-        if let Err(broken) = self.carried(question, &loads) {
-            return Err(broken);
-        }
-        Ok(())
+        self.bounded(question)?;
+        let loads = load_table(alloc, question, self)?;
+        self.carried(question, &loads)
     }
 }
 

@@ -17,7 +17,7 @@ use std::marker::Model;
 /// A contract sees the list of the eight totals, class 1 first.
 #[derive(Clone, Copy, Debug, PartialEq, Eq)]
 pub struct Totals {
-    by_class: [u64; 8],
+    by_class: [u64; Class::COUNT],
 }
 
 impl Model for Totals {
@@ -40,15 +40,17 @@ impl Totals {
 }
 
 /// Adds to the sum of one class.
-fn add_to_class(sums: &mut [u64; 8], class: Class, amount: u64)
+fn add_to_class(sums: &mut [u64; Class::COUNT], class: Class, amount: u64)
     requires { get_or sums.old (class - 1) 0 + amount < 2 ^ 64 }
-    ensures { (c : ℕ) → 1 ≤ c → c ≤ 8 → get_or sums.new (c - 1) 0 ≡ get_or sums.old (c - 1) 0 + (if class == c then amount else 0) }
+    ensures { (c : ℕ) → 1 ≤ c → c ≤ Class.MAX
+        → get_or sums.new (c - 1) 0
+        ≡ get_or sums.old (c - 1) 0 + (if class == c then amount else 0) }
 {
     sums[class.number() as usize - 1] += amount;
 }
 
 /// The sum of the quantities of each class's lines.
-pub(crate) fn class_totals(question: &Question, schedule: &Schedule) -> [u64; 8]
+pub(crate) fn class_totals(question: &Question, schedule: &Schedule) -> [u64; Class::COUNT]
     requires { length schedule.now ≡ length question.now.asked.lines }
     ensures { IsByClass (class_total question.now.asked schedule.now) result }
 {
@@ -68,14 +70,15 @@ pub(crate) fn class_totals(question: &Question, schedule: &Schedule) -> [u64; 8]
 fn weight_of(question: &Question, schedule: &Schedule, line: usize) -> u64
     requires shape { length schedule.now ≡ length question.now.asked.lines }
     requires known { line < length question.now.asked.lines }
-    ensures is { result ≡ weight_by_tenths (asked_line question.now.asked line) (quantity schedule.now line) }
+    ensures is { result ≡ weight_by_tenths (asked_line question.now.asked line)
+        (quantity schedule.now line) }
     ensures high { result ≤ 10_000_000_000 }
 {
     line_weight(question.ceiling(line), schedule.quantity(line))
 }
 
 /// The sum of the weights of each class's lines.
-pub(crate) fn class_weights(question: &Question, schedule: &Schedule) -> [u64; 8]
+pub(crate) fn class_weights(question: &Question, schedule: &Schedule) -> [u64; Class::COUNT]
     requires { length schedule.now ≡ length question.now.asked.lines }
     ensures { IsByClass (class_weight question.now.asked schedule.now) result }
 {

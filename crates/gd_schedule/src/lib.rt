@@ -9,6 +9,7 @@ ghost use Rattle.gd_rules.specs.Schedule.{quantity};
 
 mod allowed;
 mod classes;
+mod fault;
 mod loads;
 mod order;
 mod weights;
@@ -27,6 +28,7 @@ pub use weights::tenth_of;
 mod tests;
 
 /// What is wrong with a schedule: the first kind of fault in this order, at its least line or element, counted from 0.
+/// It is printed by its name alone.
 #[derive(Clone, Copy, Debug, PartialEq, Eq, Drop)]
 pub enum Broken {
     /// There is not one quantity for each line.
@@ -82,9 +84,9 @@ impl Schedule {
         self.quantities.as_slice()
     }
 
-    /// What holds of every schedule: no quantity is above 1,000,000,000 dekatherms.
+    /// What holds of every schedule: no quantity is above the greatest, in dekatherms.
     pub fn known(&self)
-        ensures { (i : ℕ) → i < length self.now → quantity self.now i ≤ 1_000_000_000 }
+        ensures { (i : ℕ) → i < length self.now → quantity self.now i ≤ Dth.MAX }
     {
         let _quantities = &self.quantities;
     }

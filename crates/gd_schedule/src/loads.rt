@@ -10,6 +10,7 @@ ghost use Rattle.gd_schedule.specs.Table.{IsTable};
 
 use crate::Schedule;
 use gd_question::{Element, Part, Question};
+use gd_units::Dth;
 use std::alloc::{AllocError, Global};
 
 /// Adds to one entry.
@@ -18,7 +19,9 @@ fn add_at(table: &mut [i64], at: usize, amount: i64)
     requires room { IsSized (2 ^ 62) (get_or table.old at (pos 0)) }
     requires small { IsSized (2 ^ 61) amount }
     ensures sized { length table.new ≡ length table.old }
-    ensures added { (e : ℕ) → get_or table.new e (pos 0) ≡ get_or table.old e (pos 0) +ℤ (if at == e then amount else pos 0) }
+    ensures added { (e : ℕ)
+        → get_or table.new e (pos 0)
+        ≡ get_or table.old e (pos 0) +ℤ (if at == e then amount else pos 0) }
 {
     table[at] += amount;
 }
@@ -44,7 +47,9 @@ fn surplus_of(
     schedule: &Schedule,
 ) -> Result<Vec<i64>, AllocError>
     requires { length schedule.now ≡ length question.now.asked.lines }
-    ensures { IfOk result (λ surplus. IsSurplus question.now.asked schedule.now (length question.now.asked.lines) surplus.items) }
+    ensures { IfOk result
+        (λ surplus. IsSurplus question.now.asked schedule.now
+        (length question.now.asked.lines) surplus.items) }
 {
     question.known();
     let mut surplus = vec![in alloc; 0i64; question.element_count() + 1]?;
@@ -63,12 +68,15 @@ struct Joint {
     inward: bool,
 }
 
+/// How an element joins its nodes.
 fn joint_of(question: &Question, element: usize) -> Joint
     requires { element < length question.now.asked.elements }
     ensures anchor { result.anchor ≡ anchor element (asked_element question.now.asked element) }
     ensures earlier { result.anchor ≤ element }
-    ensures inward { IsTrue result.inward → (start question.now.asked element ≡ element + 1) × (stop question.now.asked element ≡ result.anchor) }
-    ensures outward { result.inward ≡ false → (start question.now.asked element ≡ result.anchor) × (stop question.now.asked element ≡ element + 1) }
+    ensures inward { IsTrue result.inward → (start question.now.asked element ≡ element + 1)
+        × (stop question.now.asked element ≡ result.anchor) }
+    ensures outward { result.inward ≡ false → (start question.now.asked element ≡ result.anchor)
+        × (stop question.now.asked element ≡ element + 1) }
 {
     question.known();
     question.placed();
@@ -113,7 +121,8 @@ fn pass_on(
     table: &mut [i64],
 )
     requires known { element < length question.now.asked.elements }
-    requires before { IsPassedOn question.now.asked schedule.now (element + 1) surplus.old table.old }
+    requires before { IsPassedOn question.now.asked schedule.now
+        (element + 1) surplus.old table.old }
     ensures { IsPassedOn question.now.asked schedule.now element surplus.new table.new }
 {
     // of it the contract speaks
@@ -176,8 +185,9 @@ fn brought(question: &Question, schedule: &Schedule, line: usize, element: Eleme
     requires shape { length schedule.now ≡ length question.now.asked.lines }
     requires line { line < length question.now.asked.lines }
     requires element { element.0 < length question.now.asked.elements }
-    ensures is { result ≡ crossing question.now.asked line element.0 *ℤ pos (quantity schedule.now line) }
-    ensures small { IsSized 1_000_000_000 result }
+    ensures is { result
+        ≡ crossing question.now.asked line element.0 *ℤ pos (quantity schedule.now line) }
+    ensures small { IsSized Dth.MAX result }
 {
     crossing(question, line, element) * schedule.quantity(line).get() as i64
 }

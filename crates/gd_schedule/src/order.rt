@@ -14,7 +14,8 @@ use std::cmp::Ordering;
 fn compare_totals(question: &Question, a: &Schedule, b: &Schedule) -> Ordering
     requires left { length a.now ≡ length question.now.asked.lines }
     requires right { length b.now ≡ length question.now.asked.lines }
-    ensures { IsOrderOf (class_total question.now.asked a.now) (class_total question.now.asked b.now) result }
+    ensures { IsOrderOf (class_total question.now.asked a.now)
+        (class_total question.now.asked b.now) result }
 {
     class_totals(question, a).cmp(&class_totals(question, b))
 }
@@ -23,7 +24,8 @@ fn compare_totals(question: &Question, a: &Schedule, b: &Schedule) -> Ordering
 fn compare_weights(question: &Question, a: &Schedule, b: &Schedule) -> Ordering
     requires left { length a.now ≡ length question.now.asked.lines }
     requires right { length b.now ≡ length question.now.asked.lines }
-    ensures { IsOrderOf (class_weight question.now.asked a.now) (class_weight question.now.asked b.now) result }
+    ensures { IsOrderOf (class_weight question.now.asked a.now)
+        (class_weight question.now.asked b.now) result }
 {
     class_weights(question, a).cmp(&class_weights(question, b))
 }

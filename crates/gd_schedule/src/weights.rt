@@ -8,7 +8,7 @@ use gd_units::Dth;
 
 /// The last dekatherm of a tenth of the ceiling.
 fn tenth_end(ceiling: u64, tenth: u64) -> u64
-    requires ceiling { ceiling ≤ 1_000_000_000 }
+    requires ceiling { ceiling ≤ Dth.MAX }
     requires tenth { tenth ≤ 10 }
     ensures { result ≡ tenth_end ceiling tenth }
 {

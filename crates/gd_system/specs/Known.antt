@@ -1,6 +1,7 @@
 -- What holds of every pipeline, in the making and made.
 use Rattle.std.specs.Prelude.{◌≡◌, ℕ, ◌+◌, ◌<◌, ◌≤◌, ◌==◌, length, if◌then◌else◌, All}
 use Rattle.gd_rules.specs.Tree.{place_of}
+use Rattle.gd_rules.specs.Limits.{most_segments, most_points, most_pools}
 use Rattle.gd_tree.specs.Grown.{IsGrown}
 use Rattle.gd_system.specs.Pipeline.{Pipeline, elements_of}
 use Rattle.gd_system.specs.Route.{element_at}
@@ -9,9 +10,9 @@ use Rattle.gd_system.specs.Route.{element_at}
 pub record IsBuilt (p : Pipeline) : Type 0 where
   pub placed : length p.places ≡ (if length p.tree == 0 then 0 else length p.tree + 1)
   pub named : length p.segments ≡ length p.tree
-  pub few_segments : length p.tree ≤ 4095
-  pub few_points : length p.points ≤ 4096
-  pub few_pools : length p.pools ≤ 256
+  pub few_segments : length p.tree ≤ most_segments
+  pub few_points : length p.points ≤ most_points
+  pub few_pools : length p.pools ≤ most_pools
   pub points_hung : All (λ e. e.1.place.0 < length p.places) p.points
   pub pools_hung : All (λ e. e.1.place.0 < length p.places) p.pools
 
@@ -19,9 +20,9 @@ pub record IsBuilt (p : Pipeline) : Type 0 where
 pub record IsSystem (p : Pipeline) : Type 0 where
   pub grown : IsGrown (length p.tree) (elements_of p)
   pub some : 0 < length p.tree
-  pub few_segments : length p.tree ≤ 4095
+  pub few_segments : length p.tree ≤ most_segments
   pub placed : length p.places ≡ length p.tree + 1
   pub named : length p.segments ≡ length p.tree
-  pub few_points : length p.points ≤ 4096
-  pub few_pools : length p.pools ≤ 256
+  pub few_points : length p.points ≤ most_points
+  pub few_pools : length p.pools ≤ most_pools
   pub hung : (e : ℕ) → e < length (elements_of p) → place_of (element_at p e) ≤ length p.tree

@@ -2,6 +2,7 @@
 use Rattle.std.specs.Prelude.{ℕ, Bool, ◌==◌, List, [], ◌∷◌, ◌++◌, length, map, get_or, Option, Some, None, if◌then◌else◌, position, nat_le, Result, Ok, Err}
 use Rattle.std.specs.List.{list_any}
 use Rattle.std.specs.Cmp.Lexicographic.{pointwise}
+use Rattle.gd_rules.specs.Limits.{most_segments, most_points, most_pools}
 use Rattle.gd_rules.specs.Question as rules
 use Rattle.gd_rules.specs.Question.Element.{Segment as segment, Receipt as receipt, Delivery as delivery, Pool as pool}
 use Rattle.gd_system.specs.Join.{join_of}
@@ -70,9 +71,9 @@ joined p from to = join_of (length p.tree) (same_name from to) (number_of p.plac
 
 abbrev pub joined_within : ℕ → Option (ℕ × ℕ) → Result (ℕ × ℕ) BuildFault
 joined_within segments None = Err Unjoined
-joined_within segments (Some ends) = if nat_le 4095 segments then Err TooMany else Ok ends
+joined_within segments (Some ends) = if nat_le most_segments segments then Err TooMany else Ok ends
 
--- The first refusal of a segment, or the places that it joins. There are at most 4,096 places, one more than segments.
+-- The first refusal of a segment, or the places that it joins. There is one place more than segments.
 abbrev pub checked_segment : Pipeline → List ℕ → List ℕ → List ℕ → Result (ℕ × ℕ) BuildFault
 checked_segment p name from to = if known (names_of p) name then Err Duplicate else joined_within (length p.tree) (joined p from to)
 
@@ -80,13 +81,13 @@ abbrev pub placed_within : ℕ → ℕ → Option ℕ → Result ℕ BuildFault
 placed_within limit count None = Err UnknownPlace
 placed_within limit count (Some place) = if nat_le limit count then Err TooMany else Ok place
 
--- The first refusal of a point, or the number of its place. There are at most 4,096 points.
+-- The first refusal of a point, or the number of its place.
 abbrev pub checked_point : Pipeline → List ℕ → List ℕ → Result ℕ BuildFault
-checked_point p name place = if known (names_of p) name then Err Duplicate else placed_within 4096 (length p.points) (number_of p.places place)
+checked_point p name place = if known (names_of p) name then Err Duplicate else placed_within most_points (length p.points) (number_of p.places place)
 
--- The first refusal of a pool, or the number of its place. There are at most 256 pools.
+-- The first refusal of a pool, or the number of its place.
 abbrev pub checked_pool : Pipeline → List ℕ → List ℕ → Result ℕ BuildFault
-checked_pool p name place = if known (names_of p) name then Err Duplicate else placed_within 256 (length p.pools) (number_of p.places place)
+checked_pool p name place = if known (names_of p) name then Err Duplicate else placed_within most_pools (length p.pools) (number_of p.places place)
 
 -- The pipeline with a segment that joins these places.
 abbrev pub with_segment : Pipeline → List ℕ → List ℕ → List ℕ → ℕ × ℕ → ℕ → Pipeline

@@ -1,3 +1,5 @@
+//! Pipelines in the making: what is refused, and what is built.
+
 ghost use Rattle.std.specs.Prelude.{◌≡◌, ℕ, ◌+◌, ◌<◌, ◌≤◌, ◌++◌, ◌∷◌, [], length, false, None, IfSome, IfOk, IfErr, OnOk, OnErr, Ok, Err, ◌⊎◌};
 ghost use Rattle.gd_rules.specs.Question.Element.{Segment as segment};
 ghost use Rattle.gd_tree.specs.Grown.{Joins};
@@ -6,25 +8,26 @@ ghost use Rattle.gd_system.specs.Pipeline.{empty, known, names_of, same_name, en
 ghost use Rattle.indexmap.specs.IndexSet.{spare};
 ghost use Rattle.indexmap.specs.IndexMap.{spare as map_spare, get};
 
-use crate::{BuildFault, Kind, PlaceId, Point, Pool, System};
+use crate::{BuildFault, Kind, MAX_POINTS, MAX_POOLS, MAX_SEGMENTS, PlaceId, Point, Pool, System};
 use gd_tree::{Segment, Tree};
 use gd_units::{Dth, Name};
 use indexmap::{IndexMap, IndexSet};
 use std::alloc::Global;
 use std::marker::Model;
 
-// The places that a segment joins, of those known so far: the first segment brings both, each later one exactly one.
+/// The places that a segment joins, of those known so far: the first segment brings both, each later one exactly one.
 fn joining(
     segments: usize,
     same: bool,
     from: Option<usize>,
     to: Option<usize>,
 ) -> Option<(usize, usize)>
-    requires few { segments ≤ 4095 }
+    requires few { segments ≤ MAX_SEGMENTS }
     requires from_known { IfSome from (λ f. f ≤ segments) }
     requires to_known { IfSome to (λ t. t ≤ segments) }
     ensures is { result ≡ join_of segments same from to }
-    ensures joins { IfSome result (λ p. (capacity : ℕ) → Joins segments (segment p.0 p.1 capacity)) }
+    ensures joins { IfSome result
+        (λ p. (capacity : ℕ) → Joins segments (segment p.0 p.1 capacity)) }
 {
     if segments == 0 {
         return if same { None } else { Some((0, 1)) };
@@ -36,7 +39,7 @@ fn joining(
     }
 }
 
-// Enters a name in room that is there: it goes last, where it is new.
+/// Enters a name in room that is there: it goes last, where it is new.
 fn enter(names: &mut IndexSet<Name>, name: Name)
     requires { 0 < spare names.old }
     ensures keys { names.new.keys ≡ entered names.old.keys name }
@@ -45,7 +48,7 @@ fn enter(names: &mut IndexSet<Name>, name: Name)
     names.insert(name).unwrap();
 }
 
-// Adds a new name with its value, last, in room that is there.
+/// Adds a new name with its value, last, in room that is there.
 fn add<V: Drop>(entries: &mut IndexMap<Name, V>, name: Name, value: V)
     requires room { 0 < map_spare entries.old }
     requires new { get same_name entries.old name ≡ None }
@@ -90,7 +93,7 @@ impl SystemBuilder {
         }
     }
 
-    // Whether a segment, point or pool has the name.
+    /// Whether a segment, point or pool has the name.
     fn has(&self, name: Name) -> bool
         ensures { result ≡ known (names_of self.now) name }
     {
@@ -99,11 +102,12 @@ impl SystemBuilder {
             || self.pools.contains_key(&name)
     }
 
-    // The first refusal of a segment, or the places that it joins.
+    /// The first refusal of a segment, or the places that it joins.
     fn check_segment(&self, name: Name, from: Name, to: Name) -> Result<(usize, usize), BuildFault>
         ensures is { result ≡ checked_segment self.now name from to }
-        ensures joins { IfOk result (λ p. (capacity : ℕ) → Joins (length self.now.tree) (segment p.0 p.1 capacity)) }
-        ensures few { OnOk result (length self.now.tree < 4095) }
+        ensures joins { IfOk result
+            (λ p. (capacity : ℕ) → Joins (length self.now.tree) (segment p.0 p.1 capacity)) }
+        ensures few { OnOk result (length self.now.tree < MAX_SEGMENTS) }
     {
         if self.has(name) {
             return Err(BuildFault::Duplicate);
@@ -114,7 +118,7 @@ impl SystemBuilder {
         match joining(count, from == to, a, b) {
             None => Err(BuildFault::Unjoined),
             Some(joined) => {
-                if count >= 4095 {
+                if count >= MAX_SEGMENTS {
                     Err(BuildFault::TooMany)
                 } else {
                     Ok(joined)
@@ -138,33 +142,33 @@ impl SystemBuilder {
         capacity: Dth,
     ) -> Result<(), BuildFault>
         ensures done { OnOk result (after_segment self.old name from to capacity ≡ Ok self.new) }
-        ensures refused { (fault : BuildFault) → after_segment self.old name from to capacity ≡ Err fault → result ≡ Err fault }
-        ensures memory { IfErr result (λ fault. (after_segment self.old name from to capacity ≡ Err fault) ⊎ (fault ≡ BuildFault.OutOfMemory)) }
+        ensures refused { (fault : BuildFault)
+            → after_segment self.old name from to capacity ≡ Err fault → result ≡ Err fault }
+        ensures memory { IfErr result
+            (λ fault. (after_segment self.old name from to capacity ≡ Err fault)
+            ⊎ (fault ≡ BuildFault.OutOfMemory)) }
         ensures kept { OnErr result (self.new ≡ self.old) }
     {
         let (f, t) = self.check_segment(name, from, to)?;
-        if self.segments.reserve(1).is_err() || self.places.reserve(2).is_err() {
-            return Err(BuildFault::OutOfMemory);
-        }
+        self.segments.reserve(1)?;
+        self.places.reserve(2)?;
         let next = Segment {
             from: f as u32,
             to: t as u32,
             capacity,
         };
-        if self.tree.push(next).is_err() {
-            return Err(BuildFault::OutOfMemory);
-        }
+        self.tree.push(next)?;
         enter(&mut self.places, from);
         enter(&mut self.places, to);
         enter(&mut self.segments, name);
         Ok(())
     }
 
-    // The first refusal of a point, or the number of its place.
+    /// The first refusal of a point, or the number of its place.
     fn check_point(&self, name: Name, place: Name) -> Result<usize, BuildFault>
         ensures is { result ≡ checked_point self.now name place }
         ensures within { IfOk result (λ at. at < length self.now.places) }
-        ensures few { OnOk result (length self.now.points < 4096) }
+        ensures few { OnOk result (length self.now.points < MAX_POINTS) }
         ensures new { OnOk result (known (names_of self.now) name ≡ false) }
     {
         if self.has(name) {
@@ -173,7 +177,7 @@ impl SystemBuilder {
         match self.places.get_index_of(&place) {
             None => Err(BuildFault::UnknownPlace),
             Some(at) => {
-                if self.points.len() >= 4096 {
+                if self.points.len() >= MAX_POINTS {
                     Err(BuildFault::TooMany)
                 } else {
                     Ok(at)
@@ -182,11 +186,11 @@ impl SystemBuilder {
         }
     }
 
-    // The first refusal of a pool, or the number of its place.
+    /// The first refusal of a pool, or the number of its place.
     fn check_pool(&self, name: Name, place: Name) -> Result<usize, BuildFault>
         ensures is { result ≡ checked_pool self.now name place }
         ensures within { IfOk result (λ at. at < length self.now.places) }
-        ensures few { OnOk result (length self.now.pools < 256) }
+        ensures few { OnOk result (length self.now.pools < MAX_POOLS) }
         ensures new { OnOk result (known (names_of self.now) name ≡ false) }
     {
         if self.has(name) {
@@ -195,7 +199,7 @@ impl SystemBuilder {
         match self.places.get_index_of(&place) {
             None => Err(BuildFault::UnknownPlace),
             Some(at) => {
-                if self.pools.len() >= 256 {
+                if self.pools.len() >= MAX_POOLS {
                     Err(BuildFault::TooMany)
                 } else {
                     Ok(at)
@@ -219,15 +223,18 @@ impl SystemBuilder {
         operator: Name,
         capacity: Dth,
     ) -> Result<(), BuildFault>
-        ensures done { OnOk result (after_point self.old name kind place operator capacity ≡ Ok self.new) }
-        ensures refused { (fault : BuildFault) → after_point self.old name kind place operator capacity ≡ Err fault → result ≡ Err fault }
-        ensures memory { IfErr result (λ fault. (after_point self.old name kind place operator capacity ≡ Err fault) ⊎ (fault ≡ BuildFault.OutOfMemory)) }
+        ensures done { OnOk result
+            (after_point self.old name kind place operator capacity ≡ Ok self.new) }
+        ensures refused { (fault : BuildFault)
+            → after_point self.old name kind place operator capacity ≡ Err fault
+            → result ≡ Err fault }
+        ensures memory { IfErr result
+            (λ fault. (after_point self.old name kind place operator capacity ≡ Err fault)
+            ⊎ (fault ≡ BuildFault.OutOfMemory)) }
         ensures kept { OnErr result (self.new ≡ self.old) }
     {
         let at = self.check_point(name, place)?;
-        if self.points.reserve(1).is_err() {
-            return Err(BuildFault::OutOfMemory);
-        }
+        self.points.reserve(1)?;
         let point = Point {
             kind,
             place: PlaceId(at),
@@ -246,14 +253,15 @@ impl SystemBuilder {
     /// `OutOfMemory`.
     pub fn pool(&mut self, name: Name, place: Name, operator: Name) -> Result<(), BuildFault>
         ensures done { OnOk result (after_pool self.old name place operator ≡ Ok self.new) }
-        ensures refused { (fault : BuildFault) → after_pool self.old name place operator ≡ Err fault → result ≡ Err fault }
-        ensures memory { IfErr result (λ fault. (after_pool self.old name place operator ≡ Err fault) ⊎ (fault ≡ BuildFault.OutOfMemory)) }
+        ensures refused { (fault : BuildFault) → after_pool self.old name place operator ≡ Err fault
+            → result ≡ Err fault }
+        ensures memory { IfErr result
+            (λ fault. (after_pool self.old name place operator ≡ Err fault)
+            ⊎ (fault ≡ BuildFault.OutOfMemory)) }
         ensures kept { OnErr result (self.new ≡ self.old) }
     {
         let at = self.check_pool(name, place)?;
-        if self.pools.reserve(1).is_err() {
-            return Err(BuildFault::OutOfMemory);
-        }
+        self.pools.reserve(1)?;
         let pool = Pool {
             place: PlaceId(at),
             operator,
@@ -269,7 +277,8 @@ impl SystemBuilder {
     /// `NoSegment`, with the builder as it was.
     pub fn finish(self) -> Result<System, (BuildFault, SystemBuilder)>
         ensures done { IfOk result (λ system. (system ≡ self) × (0 < length self.tree)) }
-        ensures refused { IfErr result (λ r. (r.0 ≡ BuildFault.NoSegment) × (r.1 ≡ self) × (length self.tree ≡ 0)) }
+        ensures refused { IfErr result
+            (λ r. (r.0 ≡ BuildFault.NoSegment) × (r.1 ≡ self) × (length self.tree ≡ 0)) }
     {
         if self.tree.len() == 0 {
             return Err((BuildFault::NoSegment, self));

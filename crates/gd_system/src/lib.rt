@@ -2,6 +2,7 @@
 #![tactic(auto)]
 
 mod builder;
+mod fault;
 mod part;
 mod route;
 mod system;
@@ -12,7 +13,19 @@ pub use part::{Element, Ends, Part, PlaceId, Point, Pool};
 pub use route::{Route, routes_are};
 pub use system::System;
 
-/// Why a builder refuses. A refused call leaves the builder as it was.
+/// How many segments a pipeline may have, one fewer than places (own limit).
+pub const MAX_SEGMENTS: usize = 4095;
+
+/// How many places it may have (own limit).
+pub const MAX_PLACES: usize = 4096;
+
+/// How many points it may have (own limit).
+pub const MAX_POINTS: usize = 4096;
+
+/// How many pools it may have (own limit).
+pub const MAX_POOLS: usize = 256;
+
+/// Why a builder refuses. A refused call leaves the builder as it was. It is printed by its name.
 #[derive(Clone, Copy, Debug, PartialEq, Eq, Drop)]
 pub enum BuildFault {
     /// A segment, point or pool of this name is there.
@@ -29,7 +42,7 @@ pub enum BuildFault {
     OutOfMemory,
 }
 
-/// Why there is no route between two ends, the first reason in this order.
+/// Why there is no route between two ends, the first reason in this order. It is printed by its name.
 #[derive(Clone, Copy, Debug, PartialEq, Eq, Drop)]
 pub enum RouteFault {
     /// One of the names is that of no point or pool.
@@ -43,6 +56,3 @@ pub enum RouteFault {
     /// Memory was refused.
     OutOfMemory,
 }
-
-#[cfg(test)]
-mod tests;

@@ -1,3 +1,5 @@
+//! What a pipeline is made of: places, segments, points and pools.
+
 ghost use Rattle.std.specs.Prelude.{◌≡◌};
 ghost use Rattle.gd_rules.specs.Tree.{place_of};
 ghost use Rattle.gd_system.specs.Pipeline.{element_of, capacity_of};

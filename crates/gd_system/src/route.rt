@@ -1,3 +1,5 @@
+//! Routes between named ends.
+
 ghost use Rattle.std.specs.Prelude.{◌≡◌, ◌<◌, ℕ, List, length, IfOk, IfErr, Ok, Err, ◌⊎◌};
 ghost use Rattle.gd_tree.specs.Grown.{route_of};
 ghost use Rattle.gd_system.specs.Pipeline.{Pipeline, elements_of};
@@ -14,8 +16,12 @@ use std::marker::Model;
 /// Where two names tell the ends of a line, one list of segments leads from the one to the other, and where the
 /// answer is `NoRoute` none does.
 pub fn routes_are()
-    ensures one { (p : Pipeline) (origin dest : List ℕ) (ends : Ends) → IsSystem p → ends_of p origin dest ≡ Ok ends → IsTheRoute p origin dest (route_of (elements_of p) (length p.tree) ends.origin_place.0 ends.dest_place.0) }
-    ensures none { (p : Pipeline) (origin dest : List ℕ) → IsSystem p → ends_of p origin dest ≡ Err RouteFault.NoRoute → AreParted p origin dest }
+    ensures one { (p : Pipeline) (origin dest : List ℕ) (ends : Ends) → IsSystem p
+        → ends_of p origin dest ≡ Ok ends
+        → IsTheRoute p origin dest
+        (route_of (elements_of p) (length p.tree) ends.origin_place.0 ends.dest_place.0) }
+    ensures none { (p : Pipeline) (origin dest : List ℕ) → IsSystem p
+        → ends_of p origin dest ≡ Err RouteFault.NoRoute → AreParted p origin dest }
 {}
 
 /// The segments that gas passes from one end to another, in order. A contract sees the list of their numbers.
@@ -40,7 +46,7 @@ impl Route {
 }
 
 impl System {
-    // The ends of these numbers, or the first refusal.
+    /// The ends of these numbers, or the first refusal.
     fn ends_between(&self, origin: Element, dest: Element) -> Result<Ends, RouteFault>
         requires origin_known { origin.0 < length (elements_of self.now) }
         requires dest_known { dest.0 < length (elements_of self.now) }
@@ -93,18 +99,20 @@ impl System {
     ///
     /// Those of `ends`, and else `OutOfMemory`.
     pub fn route(&self, alloc: Global, origin: Name, dest: Name) -> Result<Route, RouteFault>
-        ensures refused { (fault : RouteFault) → ends_of self.now origin dest ≡ Err fault → result ≡ Err fault }
-        ensures memory { IfErr result (λ fault. (ends_of self.now origin dest ≡ Err fault) ⊎ (fault ≡ RouteFault.OutOfMemory)) }
+        ensures refused { (fault : RouteFault) → ends_of self.now origin dest ≡ Err fault
+            → result ≡ Err fault }
+        ensures memory { IfErr result
+            (λ fault. (ends_of self.now origin dest ≡ Err fault)
+            ⊎ (fault ≡ RouteFault.OutOfMemory)) }
         ensures found { IfOk result (IsTheRoute self.now origin dest) }
         ensures none { result ≡ Err RouteFault.NoRoute → AreParted self.now origin dest }
     {
         let tree = &self.tree;
         let ends = self.ends(origin, dest)?;
-        let found = tree.route(alloc, ends.origin_place.0 as u32, ends.dest_place.0 as u32);
+        let found = tree.route(alloc, ends.origin_place.0 as u32, ends.dest_place.0 as u32)?;
         match found {
-            Ok(Some(segments)) => Ok(Route { segments }),
-            Ok(None) => unreachable!(),
-            Err(_) => Err(RouteFault::OutOfMemory),
+            Some(segments) => Ok(Route { segments }),
+            None => unreachable!(),
         }
     }
 }

@@ -1,3 +1,5 @@
+//! Pipelines, with all that can be read of them.
+
 ghost use Rattle.std.specs.Prelude.{◌≡◌, ◌↔◌, IsTrue, ◌<◌, length, Some, None, IfSome, IfOk, slice_get};
 ghost use Rattle.std.specs.Option.{option_map};
 ghost use Rattle.gd_rules.specs.Tree.{IsTree};
@@ -38,7 +40,7 @@ impl Model for System {
     ghost invariant = { IsSystemInside };
 }
 
-// What is kept of an element, with the name of a point or pool.
+/// What is kept of an element, with the name of a point or pool.
 #[derive(Clone, Copy)]
 enum Row {
     Segment,
@@ -144,7 +146,7 @@ impl System {
         &self.tree
     }
 
-    // What is kept of the element.
+    /// What is kept of the element.
     fn row(&self, element: Element) -> Row
         requires { element.0 < length (elements_of self.now) }
         ensures { IsRow self.now element.0 result }

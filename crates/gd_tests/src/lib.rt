@@ -10,7 +10,11 @@ mod flow;
 #[cfg(test)]
 mod network;
 #[cfg(test)]
-mod simplex;
+mod pipeline;
+#[cfg(test)]
+mod question;
+#[cfg(test)]
+mod settling;
 #[cfg(test)]
 mod solver;
 #[cfg(test)]

@@ -17,54 +17,9 @@ line,R1,D1,1,0,80,,
 line,R1,D1,4,33,50,,
 ";
 
-/// What the network of this schedule begins with.
-fn begun(alloc: Global, question: &Question, schedule: &Schedule) -> Result<Vec<i64>, AllocError> {
-    let network = Network::at(alloc, question, schedule)?;
-    let first = network.first().try_clone(alloc)?;
-    Ok(first.into_amounts())
-}
-
-/// The network of this schedule begins with these amounts.
-fn begins(
-    rt: &impl Abort,
-    alloc: Global,
-    question: &Question,
-    numbers: &[u64],
-    amounts: &[i64],
-) -> Result<(), Fail> {
-    let schedule = scheduled(rt, alloc, numbers)?;
-    let first = begun(alloc, question, &schedule)?;
-    assert_eq!(rt; first.as_slice(), amounts);
-    Ok(())
-}
-
 const FLOORS: [i64; 23] = [
     33, 33, 33, 0, 0, 0, 0, 0, 0, 0, 0, 0, 0, 5, 5, 5, 5, 5, 5, 3, 0, 0, 0,
 ];
-
-/// The second entry is missing: the line comes up to its floor of 33.
-const SHORT: [i64; 23] = [
-    96, 96, 96, 8, 8, 8, 8, 8, 8, 8, 7, 0, 0, 5, 5, 5, 5, 5, 5, 3, 0, 0, 0,
-];
-
-/// The third entry is dropped, and the others come down to their ceilings.
-const LONG: [i64; 23] = [
-    130, 130, 130, 8, 8, 8, 8, 8, 8, 8, 8, 8, 8, 5, 5, 5, 5, 5, 5, 5, 5, 5, 5,
-];
-
-/// Schedules that are too short, too long and too large are brought within bounds.
-fn begins_within_bounds(rt: &impl Abort, alloc: Global, question: &Question) -> Result<(), Fail> {
-    begins(rt, alloc, question, [].as_slice(), FLOORS.as_slice())?;
-    begins(rt, alloc, question, [63].as_slice(), SHORT.as_slice())?;
-    let long = [81, 1_000_000_000, 7];
-    begins(rt, alloc, question, long.as_slice(), LONG.as_slice())
-}
-
-#[test]
-fn begins_with_any_schedule(rt: HostRuntime) -> Result<(), Fail> {
-    let asked = asked(rt.alloc(), TWO_LINES.as_bytes())?;
-    begins_within_bounds(&rt, rt.alloc(), &asked.question)
-}
 
 /// The network of no schedule begins with the floors.
 fn begun_alone(alloc: Global, question: &Question) -> Result<Vec<i64>, AllocError> {

@@ -1,9 +1,9 @@
 //! The solver.
 
 use crate::texts::{asked, scheduled};
-use gd_certificate::{check, check_cut};
+use gd_certificate::check;
 use gd_question::Question;
-use gd_solver::{Answer, solve, solve_from};
+use gd_solver::{Answer, solve_from};
 use std::alloc::Global;
 use std::process::Abort;
 use std::test::Fail;
@@ -31,19 +31,6 @@ fn is_best(alloc: Global, question: &Question, answer: &Answer, numbers: &[u64])
     check(alloc, question, schedule, prices).is_ok() && given.eq(numbers.iter().copied())
 }
 
-/// The short lines go before the long one.
-fn solves(rt: &impl Abort, alloc: Global, question: &Question) -> Result<(), Fail> {
-    let answer = solve(alloc, question)?;
-    assert!(rt; is_best(alloc, question, &answer, [0, 100, 100].as_slice()));
-    Ok(())
-}
-
-#[test]
-fn short_lines_go_before_a_long_one(rt: HostRuntime) -> Result<(), Fail> {
-    let asked = asked(rt.alloc(), LONG_AND_SHORT.as_bytes())?;
-    solves(&rt, rt.alloc(), &asked.question)
-}
-
 /// Which schedule it begins from makes no difference here.
 fn solves_from(
     rt: &impl Abort,
@@ -68,28 +55,4 @@ fn solves_from_each(rt: &impl Abort, alloc: Global, question: &Question) -> Resu
 fn begins_from_any_schedule(rt: HostRuntime) -> Result<(), Fail> {
     let asked = asked(rt.alloc(), LONG_AND_SHORT.as_bytes())?;
     solves_from_each(&rt, rt.alloc(), &asked.question)
-}
-
-/// A floor of 101 can't pass a segment of 100.
-const FLOOR_ABOVE_CAPACITY: &str = "\
-segment,S1,A,B,100,,,
-point,R1,receipt,A,OP,1000,,
-point,D1,delivery,B,OP,1000,,
-question,DEMO,1,1,,,,
-line,R1,D1,4,101,200,,
-";
-
-/// One dekatherm too many has to pass the segment.
-fn is_impossible(rt: &impl Abort, alloc: Global, question: &Question) -> Result<(), Fail> {
-    let Answer::Impossible(cut) = solve(alloc, question)? else {
-        return Err("a schedule".into());
-    };
-    assert!(rt; check_cut(question, &cut) == Ok(1));
-    Ok(())
-}
-
-#[test]
-fn a_floor_above_a_capacity_is_impossible(rt: HostRuntime) -> Result<(), Fail> {
-    let asked = asked(rt.alloc(), FLOOR_ABOVE_CAPACITY.as_bytes())?;
-    is_impossible(&rt, rt.alloc(), &asked.question)
 }

@@ -46,15 +46,7 @@ with_member n p m member.Pool name = with_pool n p m (element_number p name)
 -- The set after row n: an `inside` row names a member, which may be there, and other rows say nothing of it.
 abbrev pub member_step : Pipeline → ℕ → Members → Row → Result Members TextFault
 member_step p n m (row.Inside kind name) = with_member n p m kind name
-member_step p n m (row.Segment name from to limit) = Ok m
-member_step p n m (row.Point name kind place operator limit) = Ok m
-member_step p n m (row.Pool name place operator) = Ok m
-member_step p n m (row.Question book cycle round) = Ok m
-member_step p n m (row.Day date zone book) = Ok m
-member_step p n m (row.Capacity element limit) = Ok m
-member_step p n m (row.Line origin dest class floor ceiling) = Ok m
-member_step p n m (row.Sched at quantity) = Ok m
-member_step p n m (row.Price element class word spread) = Ok m
+member_step p n m r = Ok m
 
 -- The set that all rows name, or the first refusal.
 abbrev pub members_of : List Row → Pipeline → Result Members TextFault

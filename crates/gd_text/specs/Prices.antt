@@ -39,15 +39,7 @@ price_at n t (Some e) class word spread = given_at n t e class word spread
 -- The table after row n: a `price` row gives two words, and other rows say nothing of prices.
 abbrev pub price_step : Pipeline → ℕ → Table → Row → Result Table TextFault
 price_step p n t (row.Price element class word spread) = price_at n t (element_number p element) class word spread
-price_step p n t (row.Segment name from to limit) = Ok t
-price_step p n t (row.Point name kind place operator limit) = Ok t
-price_step p n t (row.Pool name place operator) = Ok t
-price_step p n t (row.Question book cycle round) = Ok t
-price_step p n t (row.Day date zone book) = Ok t
-price_step p n t (row.Capacity element limit) = Ok t
-price_step p n t (row.Line origin dest class floor ceiling) = Ok t
-price_step p n t (row.Sched at quantity) = Ok t
-price_step p n t (row.Inside member name) = Ok t
+price_step p n t r = Ok t
 
 -- The prices of all rows for the elements of a pipeline, or the first refusal.
 abbrev pub prices_of : List Row → Pipeline → Result Table TextFault

@@ -6,6 +6,8 @@ use Rattle.gd_text_part.specs.declared.fault.TextFault.{TextFault}
 use Rattle.gd_text_part.specs.declared.fault.TextFault.TheVariants as fault
 use Rattle.gd_text_part.specs.declared.row.Row.{Row}
 use Rattle.gd_text_part.specs.declared.row.Row.TheVariants as row
+use Rattle.gd_text_part.specs.declared.row.PipelineRow.TheVariants as pipeline
+use Rattle.gd_text_part.specs.declared.row.QuestionRow.TheVariants as question
 use Rattle.gd_system.specs.Pipeline.{Pipeline, empty, after_segment, after_point, after_pool, element_number}
 use Rattle.gd_system.specs.declared.BuildFault.{BuildFault}
 use Rattle.gd_system.specs.declared.BuildFault.TheVariants as build
@@ -47,16 +49,10 @@ capacity_told n capacity.IsPool = fault.Row n cause.IsPool
 
 -- The pipeline after row n: a segment, point or pool is added to it, and other rows say nothing of it.
 abbrev pub pipeline_step : ℕ → Pipeline → Row → Result Pipeline TextFault
-pipeline_step n p (row.Segment name from to limit) = told (build_told n) (after_segment p name from to limit)
-pipeline_step n p (row.Point name kind place operator limit) = told (build_told n) (after_point p name kind place operator limit)
-pipeline_step n p (row.Pool name place operator) = told (build_told n) (after_pool p name place operator)
-pipeline_step n p (row.Question book cycle round) = Ok p
-pipeline_step n p (row.Capacity element limit) = Ok p
-pipeline_step n p (row.Line origin dest class floor ceiling) = Ok p
-pipeline_step n p (row.Day date zone book) = Ok p
-pipeline_step n p (row.Sched at quantity) = Ok p
-pipeline_step n p (row.Price element class word spread) = Ok p
-pipeline_step n p (row.Inside member name) = Ok p
+pipeline_step n p (row.Pipeline (pipeline.Segment name from to limit)) = told (build_told n) (after_segment p name from to limit)
+pipeline_step n p (row.Pipeline (pipeline.Point name kind place operator limit)) = told (build_told n) (after_point p name kind place operator limit)
+pipeline_step n p (row.Pipeline (pipeline.Pool name place operator)) = told (build_told n) (after_pool p name place operator)
+pipeline_step n p r = Ok p
 
 abbrev pub finished : ℕ → Pipeline → Result Pipeline TextFault
 finished n p = if length p.tree == 0 then Err (fault.Row n cause.NoSegment) else Ok p
@@ -68,7 +64,7 @@ pipeline_of rows = built_from pipeline_step 1 empty rows >>= finished (length ro
 -- The book, cycle and round of the first `question` row.
 abbrev pub head_of : List Row → Option (List ℕ × ℕ × ℕ)
 head_of [] = None
-head_of (row.Question book cycle round ∷ rows) = Some (book, cycle, round)
+head_of (row.Question (question.Head book cycle round) ∷ rows) = Some (book, cycle, round)
 head_of (r ∷ rows) = head_of rows
 
 abbrev pub capacity_at : ℕ → Posed → Option ℕ → ℕ → Result Posed TextFault
@@ -77,16 +73,9 @@ capacity_at n q (Some e) limit = told (capacity_told n) (after_capacity q e limi
 
 -- The question after row n: a capacity is set, a line is added, and other rows say nothing of it.
 abbrev pub question_step : ℕ → Posed → Row → Result Posed TextFault
-question_step n q (row.Capacity element limit) = capacity_at n q (element_number q.pipeline element) limit
-question_step n q (row.Line origin dest class floor ceiling) = told (line_told n) (after_line q origin dest class floor ceiling)
-question_step n q (row.Segment name from to limit) = Ok q
-question_step n q (row.Point name kind place operator limit) = Ok q
-question_step n q (row.Pool name place operator) = Ok q
-question_step n q (row.Question book cycle round) = Ok q
-question_step n q (row.Day date zone book) = Ok q
-question_step n q (row.Sched at quantity) = Ok q
-question_step n q (row.Price element class word spread) = Ok q
-question_step n q (row.Inside member name) = Ok q
+question_step n q (row.Question (question.Capacity element limit)) = capacity_at n q (element_number q.pipeline element) limit
+question_step n q (row.Question (question.Line origin dest class floor ceiling)) = told (line_told n) (after_line q origin dest class floor ceiling)
+question_step n q r = Ok q
 
 abbrev pub question_under : List Row → Pipeline → Option (List ℕ × ℕ × ℕ) → Result Posed TextFault
 question_under rows p None = Err (fault.Row (length rows + 1) cause.Missing)

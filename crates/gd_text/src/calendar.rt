@@ -24,7 +24,7 @@ pub fn day_of(rows: &[Row]) -> Option<(CivilDate, &ZoneText)>
     None
 }
 
-// The moment of a mark, in seconds since 1970.
+/// The moment of a mark, in seconds since 1970.
 fn seconds(calendar: &Calendar, cycle: CycleNo, mark: Mark) -> u64
     ensures { result ≡ due calendar.now cycle (mark_of mark) }
 {
@@ -45,7 +45,7 @@ fn cycle_reply(calendar: &Calendar, cycle: CycleNo) -> Reply
     }
 }
 
-// The hours of the gas day that are over where the cycle of this number takes effect.
+/// The hours of the gas day that are over where the cycle of this number takes effect.
 fn elapsed(calendar: &Calendar, number: u8) -> u64
     requires { (1 ≤ number) × (number ≤ 5) }
     ensures { result ≡ gas_day.elapsed number }

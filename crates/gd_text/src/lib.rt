@@ -16,6 +16,3 @@ pub use replies::{allowed_replies, best_replies, broken_reply, cut_fault_reply, 
 pub use reply::{InputFault, Reply};
 pub use solved::{cut_replies, solved_replies};
 pub use values::{Asked, asked_of};
-
-#[cfg(test)]
-mod tests;

@@ -37,7 +37,7 @@ fn unknown(row: u64) -> TextFault
 }
 
 impl MemberTable {
-    // Nothing is inside.
+    /// Nothing is inside.
     fn new(alloc: Global, system: &System) -> Result<MemberTable, AllocError>
         ensures { IfOk result (λ table. table ≡ spec.none_inside system.now) }
     {
@@ -48,7 +48,7 @@ impl MemberTable {
         })
     }
 
-    // Takes a member of this name in.
+    /// Takes a member of this name in.
     fn take(
         &mut self,
         system: &System,
@@ -104,7 +104,7 @@ impl MemberTable {
     }
 }
 
-// Takes the member of a row in, if it names one.
+/// Takes the member of a row in, if it names one.
 fn add_member(
     table: &mut MemberTable,
     system: &System,

@@ -36,7 +36,7 @@ impl Model for PriceTable {
     ghost invariant = { λ t. (length t.words.items ≡ 8 * t.elements) × (length t.spreads.items ≡ 8 * t.elements) × (length t.given.items ≡ 8 * t.elements) × (t.elements ≤ 10_000) };
 }
 
-// The word at a place, as costs keep it.
+/// The word at a place, as costs keep it.
 fn word(words: &[i64], at: usize) -> i128
     requires { at < length words.now }
     ensures is { result ≡ get_or words.now at (pos 0) }
@@ -45,7 +45,7 @@ fn word(words: &[i64], at: usize) -> i128
     i128::from(words[at])
 }
 
-// The eight words of an element.
+/// The eight words of an element.
 fn eight(words: &[i64], element: usize) -> Lex<8>
     requires { 8 * element + 8 ≤ length words.now }
     ensures { list_of result ≡ spec.eight words.now element }
@@ -64,7 +64,7 @@ fn eight(words: &[i64], element: usize) -> Lex<8>
 }
 
 impl PriceTable {
-    // No price is given yet.
+    /// No price is given yet.
     fn new(alloc: Global, elements: usize) -> Result<PriceTable, AllocError>
         requires { elements ≤ 10_000 }
         ensures { IfOk result (λ table. table ≡ spec.no_prices elements) }
@@ -80,7 +80,7 @@ impl PriceTable {
         })
     }
 
-    // Gives the words of an element at a class.
+    /// Gives the words of an element at a class.
     fn give(
         &mut self,
         number: u64,
@@ -107,7 +107,7 @@ impl PriceTable {
         Ok(())
     }
 
-    // The price of an element.
+    /// The price of an element.
     fn price(&self, element: usize) -> Tariff
         requires { element < self.now.elements }
         ensures { spec.IsPrice self.now element result }
@@ -127,7 +127,7 @@ impl PriceTable {
     }
 }
 
-// Gives the words of a row, if it is one of prices.
+/// Gives the words of a row, if it is one of prices.
 fn add_price(
     table: &mut PriceTable,
     system: &System,

@@ -1,3 +1,5 @@
+//! The rows that tell how a check ended.
+
 ghost use Rattle.std.specs.Prelude.{◌≡◌, ◌<◌, ◌≤◌, length, IfOk, IfSome, IfNone, OnOk, ◌++◌, ◌∷◌, [], ◌-◌, get_or, map};
 ghost use Rattle.gd_schedule.specs.Exact.{Explains};
 ghost use Rattle.gd_schedule.specs.declared.Broken.TheVariants.{OutOfMemory};
@@ -33,7 +35,7 @@ fn push_total(rows: &mut Vec<Reply>, totals: &Totals, class: Class) -> Result<()
     Ok(())
 }
 
-// How good a schedule is, and a total for each class from 1 on.
+/// How good a schedule is, and a total for each class from 1 on.
 fn good_replies(
     alloc: Global,
     good: Reply,

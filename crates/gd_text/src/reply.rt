@@ -1,3 +1,5 @@
+//! A row of the output, and how it is printed.
+
 ghost use Rattle.std.specs.Prelude.{Some};
 ghost use Rattle.gd_text.specs.Lines.{fault_name, line_of, spread_field};
 
@@ -96,7 +98,7 @@ impl fmt::Display for InputFault {
     }
 }
 
-// A word of the spread as a field, which is empty where the word is 0.
+/// A word of the spread as a field, which is empty where the word is 0.
 #[derive(Clone, Copy)]
 struct SpreadField(i128);
 

@@ -19,7 +19,7 @@ use gd_text_part::Member;
 use gd_units::Name;
 use std::alloc::{AllocError, Global};
 
-// Appends the row of each line's quantity.
+/// Appends the row of each line's quantity.
 fn push_schedule(rows: &mut Vec<Reply>, schedule: &Schedule) -> Result<(), AllocError>
     ensures { OnOk result (rows.new.items ≡ rows.old.items ++ spec.sched_rows schedule.now) }
 {
@@ -29,7 +29,7 @@ fn push_schedule(rows: &mut Vec<Reply>, schedule: &Schedule) -> Result<(), Alloc
     Ok(())
 }
 
-// The word at a class, the classes counted from 0.
+/// The word at a class, the classes counted from 0.
 fn word(words: Lex<8>, class: usize) -> i128
     requires { class < 8 }
     ensures is { result ≡ words_of 8 words class }
@@ -38,7 +38,7 @@ fn word(words: Lex<8>, class: usize) -> i128
     words.word(class).unwrap_or(0)
 }
 
-// Appends the row of an element's words at a level, if one of them isn't 0.
+/// Appends the row of an element's words at a level, if one of them isn't 0.
 fn push_level(
     rows: &mut Vec<Reply>,
     element: Name,
@@ -60,7 +60,7 @@ fn push_level(
     Ok(())
 }
 
-// Appends the rows of an element's price.
+/// Appends the rows of an element's price.
 fn push_price(rows: &mut Vec<Reply>, element: Name, price: Tariff) -> Result<(), AllocError>
     ensures { OnOk result (rows.new.items ≡ rows.old.items ++ spec.element_rows element (class_words price)) }
 {
@@ -72,7 +72,7 @@ fn push_price(rows: &mut Vec<Reply>, element: Name, price: Tariff) -> Result<(),
     Ok(())
 }
 
-// The price of an element, the elements counted from 0.
+/// The price of an element, the elements counted from 0.
 fn price(prices: &Prices<Tariff>, element: usize) -> Tariff
     requires { element < length prices.now }
     ensures { slice_get prices.now element ≡ Some result }
@@ -80,7 +80,7 @@ fn price(prices: &Prices<Tariff>, element: usize) -> Tariff
     prices.values()[element]
 }
 
-// Appends the rows of all prices.
+/// Appends the rows of all prices.
 fn push_prices(
     rows: &mut Vec<Reply>,
     question: &Question,
@@ -118,7 +118,7 @@ pub fn solved_replies(
     Ok(rows)
 }
 
-// Appends the row of a member, if it is inside.
+/// Appends the row of a member, if it is inside.
 fn push_member(
     rows: &mut Vec<Reply>,
     member: Member,
@@ -133,7 +133,7 @@ fn push_member(
     Ok(())
 }
 
-// Appends the rows of the places inside.
+/// Appends the rows of the places inside.
 fn push_places(rows: &mut Vec<Reply>, system: &System, inside: &[bool]) -> Result<(), AllocError>
     requires { length inside.now ≤ length system.now.places }
     ensures { OnOk result (rows.new.items ≡ rows.old.items ++ spec.inside_rows Member.Place system.now.places inside.now) }
@@ -144,7 +144,7 @@ fn push_places(rows: &mut Vec<Reply>, system: &System, inside: &[bool]) -> Resul
     Ok(())
 }
 
-// Appends the rows of the points or pools inside, of which the first is the element of this number.
+/// Appends the rows of the points or pools inside, of which the first is the element of this number.
 fn push_ends(
     rows: &mut Vec<Reply>,
     system: &System,

@@ -1,11 +1,14 @@
+//! The question and the schedule that the rows of a text build.
+
 ghost use Rattle.std.specs.Prelude.{◌≡◌, ◌⊎◌, ◌+◌, ◌<◌, Ok, Err, Some, None, Option, IfOk, MatchResult};
 ghost use Rattle.gd_text.specs.Building.{Builds};
+ghost use Rattle.gd_system.specs.Pipeline.{element_number};
 ghost use Rattle.gd_text.specs.Values as spec;
 
 use gd_question::{CapacityFault, LineFault, Question, QuestionBuilder};
 use gd_schedule::Schedule;
 use gd_system::{BuildFault, RouteFault, System, SystemBuilder};
-use gd_text_part::{Cause, Row, TextFault};
+use gd_text_part::{Cause, PipelineRow, QuestionRow, Row, TextFault};
 use gd_units::{CycleNo, Dth, Name, Round};
 use std::alloc::{AllocError, Global};
 
@@ -70,26 +73,28 @@ fn capacity_fault(row: u64, fault: CapacityFault) -> TextFault
 fn add_part(builder: &mut SystemBuilder, number: u64, row: &Row) -> Result<(), TextFault>
     ensures { MatchResult result (λ _. spec.pipeline_step number builder.old row.now ≡ Ok builder.new) (λ e. (e ≡ TextFault.OutOfMemory) ⊎ (spec.pipeline_step number builder.old row.now ≡ Err e)) }
 {
-    let added = match *row {
-        Row::Segment {
+    let Row::Pipeline(part) = row else {
+        return Ok(());
+    };
+    let added = match *part {
+        PipelineRow::Segment {
             name,
             from,
             to,
             capacity,
         } => builder.segment(name, from, to, capacity),
-        Row::Point {
+        PipelineRow::Point {
             name,
             kind,
             place,
             operator,
             capacity,
         } => builder.point(name, kind, place, operator, capacity),
-        Row::Pool {
+        PipelineRow::Pool {
             name,
             place,
             operator,
         } => builder.pool(name, place, operator),
-        _ => Ok(()),
     };
     match added {
         Ok(()) => Ok(()),
@@ -121,7 +126,7 @@ fn head_of(rows: &[Row]) -> Option<(Name, CycleNo, Round)>
     ensures { result ≡ spec.head_of rows.now }
 {
     'rows: for row in rows {
-        if let Row::Question { book, cycle, round } = *row {
+        if let Row::Question(QuestionRow::Head { book, cycle, round }) = *row {
             return Some((book, cycle, round));
         }
     }
@@ -134,7 +139,7 @@ fn set_capacity(
     element: Name,
     capacity: Dth,
 ) -> Result<(), TextFault>
-    ensures { MatchResult result (λ _. spec.question_step number builder.old (Row.Capacity element capacity) ≡ Ok builder.new) (λ e. spec.question_step number builder.old (Row.Capacity element capacity) ≡ Err e) }
+    ensures { MatchResult result (λ _. spec.capacity_at number builder.old (element_number builder.old.pipeline element) capacity ≡ Ok builder.new) (λ e. spec.capacity_at number builder.old (element_number builder.old.pipeline element) capacity ≡ Err e) }
 {
     let Some(element) = builder.system().element(element) else {
         return Err(TextFault::Row {
@@ -152,9 +157,15 @@ fn set_capacity(
 fn add_line(builder: &mut QuestionBuilder, number: u64, row: &Row) -> Result<(), TextFault>
     ensures { MatchResult result (λ _. spec.question_step number builder.old row.now ≡ Ok builder.new) (λ e. (e ≡ TextFault.OutOfMemory) ⊎ (spec.question_step number builder.old row.now ≡ Err e)) }
 {
+    let Row::Question(row) = row else {
+        return Ok(());
+    };
     match *row {
-        Row::Capacity { element, capacity } => set_capacity(builder, number, element, capacity),
-        Row::Line {
+        QuestionRow::Head { .. } => Ok(()),
+        QuestionRow::Capacity { element, capacity } => {
+            set_capacity(builder, number, element, capacity)
+        }
+        QuestionRow::Line {
             origin,
             dest,
             class,
@@ -164,7 +175,6 @@ fn add_line(builder: &mut QuestionBuilder, number: u64, row: &Row) -> Result<(),
             Ok(()) => Ok(()),
             Err(fault) => Err(line_fault(number, fault)),
         },
-        _ => Ok(()),
     }
 }
 

@@ -15,6 +15,8 @@ use Rattle.gd_text_part.specs.declared.row.Member.{Member}
 use Rattle.gd_text_part.specs.declared.row.Member.TheVariants as member
 use Rattle.gd_text_part.specs.declared.row.Row.{Row}
 use Rattle.gd_text_part.specs.declared.row.Row.TheVariants as row
+use Rattle.gd_text_part.specs.declared.row.PipelineRow.TheVariants as pipeline
+use Rattle.gd_text_part.specs.declared.row.QuestionRow.TheVariants as question
 
 -- one step after the other, up to the first fault
 infixl 10 ◌>>=◌
@@ -109,7 +111,7 @@ segment_row fields = do
   to ← name_at fields 4
   capacity ← quantity_at fields 5
   rest ← empty_from fields 6
-  Ok (row.Segment name from to capacity)
+  Ok (row.Pipeline (pipeline.Segment name from to capacity))
 
 unfoldable pub point_row : List (List ℕ) → Result Row Cause
 point_row fields = do
@@ -119,7 +121,7 @@ point_row fields = do
   operator ← name_at fields 5
   capacity ← quantity_at fields 6
   rest ← empty_from fields 7
-  Ok (row.Point name kind place operator capacity)
+  Ok (row.Pipeline (pipeline.Point name kind place operator capacity))
 
 unfoldable pub pool_row : List (List ℕ) → Result Row Cause
 pool_row fields = do
@@ -127,7 +129,7 @@ pool_row fields = do
   place ← name_at fields 3
   operator ← name_at fields 4
   rest ← empty_from fields 5
-  Ok (row.Pool name place operator)
+  Ok (row.Pipeline (pipeline.Pool name place operator))
 
 unfoldable pub question_row : List (List ℕ) → Result Row Cause
 question_row fields = do
@@ -135,14 +137,14 @@ question_row fields = do
   cycle ← cycle_at fields 3
   round ← round_at fields 4
   rest ← empty_from fields 5
-  Ok (row.Question book cycle round)
+  Ok (row.Question (question.Head book cycle round))
 
 unfoldable pub capacity_row : List (List ℕ) → Result Row Cause
 capacity_row fields = do
   element ← name_at fields 2
   capacity ← quantity_at fields 3
   rest ← empty_from fields 4
-  Ok (row.Capacity element capacity)
+  Ok (row.Question (question.Capacity element capacity))
 
 unfoldable pub line_row : List (List ℕ) → Result Row Cause
 line_row fields = do
@@ -152,7 +154,7 @@ line_row fields = do
   floor ← quantity_at fields 5
   ceiling ← quantity_at fields 6
   rest ← empty_from fields 7
-  Ok (row.Line origin dest class floor ceiling)
+  Ok (row.Question (question.Line origin dest class floor ceiling))
 
 -- the lines of `sched` rows are 1, 2, 3 and so on: the next one, and no other
 unfoldable pub sched_row : ℕ → List (List ℕ) → Result Row Cause

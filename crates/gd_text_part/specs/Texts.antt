@@ -39,6 +39,19 @@ HasManyBytes text = (MAX_BYTES < length text) ⊎ (MAX_READS ≤ length text)
 abbrev pub HasManyRows : List ℕ → Type 0
 HasManyRows text = MAX_ROWS < length (records_of text)
 
+-- a text has more bytes or rows than it may have
+abbrev pub IsTooLong : List ℕ → Type 0
+IsTooLong text = (MAX_BYTES < length text) ⊎ HasManyRows text
+
+-- What is told of a text in memory. Its rows or its first fault, where it is within its limits, or that it is too long;
+-- and nothing else but want of memory.
+abbrev pub Tells : {X : Type 0} → (X → List Row) → Form → List ℕ → Result X TextFault → Type 0
+Tells view form text (Ok x) = IsWithin text × (rows_of form text ≡ Ok (view x))
+Tells view form text (Err (fault.Row n c)) = IsWithin text × (rows_of form text ≡ Err (record { row = n; cause = c }))
+Tells view form text (Err fault.TooLong) = IsTooLong text
+Tells view form text (Err fault.ReadFailed) = ⊥
+Tells view form text (Err fault.OutOfMemory) = ⊤
+
 -- What reading a text may answer. Its rows or its first fault, and then the text is within its limits; that it is
 -- too long, and then it is; or that the reader failed or memory ran out.
 abbrev pub Reads : {X : Type 0} → (X → List Row) → Form → List ℕ → Result X TextFault → Type 0
@@ -54,3 +67,10 @@ BlamesNoRow long fault.ReadFailed = ⊤
 BlamesNoRow long fault.TooLong = long
 BlamesNoRow long (fault.Row n c) = ⊥
 BlamesNoRow long fault.OutOfMemory = ⊤
+
+-- the same of a text in memory, which no reader fails to give
+abbrev pub BlamesLength : Type 0 → TextFault → Type 0
+BlamesLength long fault.ReadFailed = ⊥
+BlamesLength long fault.TooLong = long
+BlamesLength long (fault.Row n c) = ⊥
+BlamesLength long fault.OutOfMemory = ⊤

@@ -11,7 +11,7 @@ use crate::fields::{
     class_at, cycle_at, date_at, empty_from, member_at, name_at, name_or_none_at, number_at,
     point_kind_at, quantity_at, round_at, signed_at, signed_or_zero_at, text_at,
 };
-use crate::row::Row;
+use crate::row::{PipelineRow, QuestionRow, Row};
 use crate::zone::ZoneText;
 use csv::ByteRecord;
 use gd_units::Name;
@@ -26,12 +26,12 @@ pub(crate) fn segment_row(row: &ByteRecord) -> Result<Row, Cause>
     let to = name_at(row, 4)?;
     let capacity = quantity_at(row, 5)?;
     empty_from(row, 6)?;
-    Ok(Row::Segment {
+    Ok(Row::Pipeline(PipelineRow::Segment {
         name,
         from,
         to,
         capacity,
-    })
+    }))
 }
 
 #[tactic(auto, unfolding(crate::specs::Rows::point_row))]
@@ -44,13 +44,13 @@ pub(crate) fn point_row(row: &ByteRecord) -> Result<Row, Cause>
     let operator = name_at(row, 5)?;
     let capacity = quantity_at(row, 6)?;
     empty_from(row, 7)?;
-    Ok(Row::Point {
+    Ok(Row::Pipeline(PipelineRow::Point {
         name,
         kind,
         place,
         operator,
         capacity,
-    })
+    }))
 }
 
 #[tactic(auto, unfolding(crate::specs::Rows::pool_row))]
@@ -61,11 +61,11 @@ pub(crate) fn pool_row(row: &ByteRecord) -> Result<Row, Cause>
     let place = name_at(row, 3)?;
     let operator = name_at(row, 4)?;
     empty_from(row, 5)?;
-    Ok(Row::Pool {
+    Ok(Row::Pipeline(PipelineRow::Pool {
         name,
         place,
         operator,
-    })
+    }))
 }
 
 #[tactic(auto, unfolding(crate::specs::Rows::question_row))]
@@ -76,7 +76,7 @@ pub(crate) fn question_row(row: &ByteRecord) -> Result<Row, Cause>
     let cycle = cycle_at(row, 3)?;
     let round = round_at(row, 4)?;
     empty_from(row, 5)?;
-    Ok(Row::Question { book, cycle, round })
+    Ok(Row::Question(QuestionRow::Head { book, cycle, round }))
 }
 
 #[tactic(auto, unfolding(crate::specs::Rows::capacity_row))]
@@ -86,7 +86,7 @@ pub(crate) fn capacity_row(row: &ByteRecord) -> Result<Row, Cause>
     let element = name_at(row, 2)?;
     let capacity = quantity_at(row, 3)?;
     empty_from(row, 4)?;
-    Ok(Row::Capacity { element, capacity })
+    Ok(Row::Question(QuestionRow::Capacity { element, capacity }))
 }
 
 #[tactic(auto, unfolding(crate::specs::Rows::line_row))]
@@ -99,13 +99,13 @@ pub(crate) fn line_row(row: &ByteRecord) -> Result<Row, Cause>
     let floor = quantity_at(row, 5)?;
     let ceiling = quantity_at(row, 6)?;
     empty_from(row, 7)?;
-    Ok(Row::Line {
+    Ok(Row::Question(QuestionRow::Line {
         origin,
         dest,
         class: class as u8,
         floor,
         ceiling,
-    })
+    }))
 }
 
 /// A `sched` row of the line that comes next.
@@ -122,7 +122,7 @@ pub(crate) fn sched_row(next: u32, row: &ByteRecord) -> Result<Row, Cause>
     })
 }
 
-// The book of a gas day, which may be left out where it isn't needed.
+/// The book of a gas day, which may be left out where it isn't needed.
 fn book_at(needed: bool, row: &ByteRecord, k: usize) -> Result<Option<Name>, Cause>
     requires { 0 < k }
     ensures { result ≡ spec.book_at needed (fields_of row.now) k }
@@ -134,7 +134,7 @@ fn book_at(needed: bool, row: &ByteRecord, k: usize) -> Result<Option<Name>, Cau
     }
 }
 
-// The fields of a `day` row, with the zone's text as it stands in the record.
+/// The fields of a `day` row, with the zone's text as it stands in the record.
 #[tactic(auto, unfolding(crate::specs::Rows::day_row))]
 fn day_fields(needed: bool, row: &ByteRecord) -> Result<(CivilDate, &str, Option<Name>), Cause>
     ensures { MatchResult result (λ d. spec.day_row needed (fields_of row.now) ≡ Ok (rows.Day d.0 d.1.now d.2)) (λ c. spec.day_row needed (fields_of row.now) ≡ Err c) }

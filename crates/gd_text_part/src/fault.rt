@@ -1,3 +1,5 @@
+//! What is wrong with a text.
+
 ghost use Rattle.std.specs.Prelude.{◌≡◌, Some};
 ghost use Rattle.gd_text_part.specs.Causes.{cause_text};
 ghost use Rattle.gd_text_part.specs.declared.fault.TextFault.TheVariants.{OutOfMemory, Row};

@@ -1,3 +1,5 @@
+//! What single fields are.
+
 ghost use Rattle.std.specs.Prelude.{◌≡◌, ◌<◌, ◌≤◌, IfOk, MatchResult, Ok, Err};
 ghost use Rattle.csv.specs.Records.{fields_of};
 ghost use Rattle.gd_text_part.specs.Dates as dates;
@@ -152,7 +154,7 @@ pub(crate) fn member_at(row: &ByteRecord, k: usize) -> Result<Member, Cause>
     }
 }
 
-// The date that a text of the form YYYY-MM-DD spells.
+/// The date that a text of the form YYYY-MM-DD spells.
 fn date_of(text: &[u8]) -> Option<CivilDate>
     ensures { result ≡ dates.date_of text.now }
 {

@@ -1,3 +1,5 @@
+//! The kinds of rows, and which of them a command takes.
+
 ghost use Rattle.std.specs.Prelude.{◌≡◌};
 ghost use Rattle.gd_text_part.specs.Kinds as spec;
 
@@ -77,7 +79,7 @@ pub(crate) fn kind_of(text: &[u8]) -> Option<RowKind>
     }
 }
 
-// The kind of event row that a first field names.
+/// The kind of event row that a first field names.
 fn event_of(text: &[u8]) -> Option<RowKind>
     ensures { result ≡ spec.event_of text.now }
 {
@@ -128,7 +130,7 @@ impl RowKind {
 }
 
 impl RowKind {
-    // Rows that build a system and ask a question about it.
+    /// Rows that build a system and ask a question about it.
     fn asks(self) -> bool
         ensures { result ≡ spec.asks self }
     {

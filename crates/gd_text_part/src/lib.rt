@@ -17,14 +17,11 @@ mod zone;
 
 pub use date::CivilDate;
 pub use fault::{Cause, RowFault, TextFault};
-pub use input::{MAX_BYTES, MAX_READS};
+pub use input::{MAX_BYTES, MAX_READS, read_bytes};
 pub use kind::{Form, RowKind};
 pub use number::{number_of, signed_of};
 pub use output::{WriteFault, write_bytes};
-pub use read::read_all;
+pub use read::{read_all, rows_in};
 pub use records::MAX_ROWS;
-pub use row::{Member, Row};
+pub use row::{Member, PipelineRow, QuestionRow, Row};
 pub use zone::ZoneText;
-
-#[cfg(test)]
-mod tests;

@@ -1,3 +1,5 @@
+//! Numbers from decimal digits.
+
 ghost use Rattle.std.specs.Prelude.{◌≡◌, ◌<◌, ◌^◌, IfSome};
 ghost use Rattle.gd_text_part.specs.Numbers as spec;
 

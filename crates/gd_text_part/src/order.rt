@@ -1,3 +1,5 @@
+//! The order of rows, and the first fault of a record.
+
 ghost use Rattle.std.specs.Prelude.{◌≡◌, ◌<◌, ◌≤◌, ◌+◌, ◌^◌, IfOk};
 ghost use Rattle.csv.specs.Records.{fields_of};
 
@@ -91,7 +93,7 @@ fn body(
     Ok(read)
 }
 
-// The kind of a record that may stand here, or its first fault up to there.
+/// The kind of a record that may stand here, or its first fault up to there.
 fn kind_at(form: Form, place: Place, row: &ByteRecord) -> Result<RowKind, Cause>
     ensures { result ≡ spec.kind_at form place (fields_of row.now) }
 {
@@ -107,7 +109,7 @@ fn kind_at(form: Form, place: Place, row: &ByteRecord) -> Result<RowKind, Cause>
     Ok(kind)
 }
 
-// The row that a record is and the place after it, or the first fault of this record.
+/// The row that a record is and the place after it, or the first fault of this record.
 fn row_at(
     alloc: Global,
     form: Form,

@@ -1,3 +1,5 @@
+//! Writing bytes.
+
 ghost use Rattle.std.specs.Prelude.{◌≤◌, ℕ, length, take, OnOk};
 ghost use Rattle.std.specs.Io.KnownBytes.{Appends};
 

@@ -1,6 +1,8 @@
+//! The records of a text in memory, by the rules of csv.
+
 ghost use Rattle.std.specs.Prelude.{◌≡◌, ◌≤◌, ◌<◌, ◌+◌, length, IfOk, IfErr, OnOk};
 ghost use Rattle.gd_text_part.specs.Csv.{IsReading, Takes, records_left, records_of};
-ghost use Rattle.gd_text_part.specs.Texts.{BlamesNoRow};
+ghost use Rattle.gd_text_part.specs.Texts.{BlamesLength};
 
 use crate::fault::TextFault;
 use csv::{ByteRecord, ErrorKind, Reader, ReaderBuilder};
@@ -41,7 +43,7 @@ impl<'t> Records<'t> {
     pub(crate) fn advance(&mut self) -> Result<bool, TextFault>
         requires { IsReading self.old }
         ensures takes { IfOk result (λ found. Takes self.old self.new found) }
-        ensures fault { IfErr result (BlamesNoRow (MAX_ROWS < self.old.taken + length (records_left self.old))) }
+        ensures fault { IfErr result (BlamesLength (MAX_ROWS < self.old.taken + length (records_left self.old))) }
     {
         match self.reader.read_byte_record(&mut self.current) {
             Ok(true) if self.taken == MAX_ROWS => Err(TextFault::TooLong),
@@ -50,9 +52,9 @@ impl<'t> Records<'t> {
                 Ok(true)
             }
             Ok(false) => Ok(false),
+            /// A text in memory gives no `Io`, though csv's contract doesn't say so.
             Err(e) => match e.kind() {
-                ErrorKind::Io(_) => Err(TextFault::ReadFailed),
-                ErrorKind::OutOfMemory => Err(TextFault::OutOfMemory),
+                ErrorKind::Io(_) | ErrorKind::OutOfMemory => Err(TextFault::OutOfMemory),
                 _ => unreachable!(),
             },
         }
@@ -62,7 +64,7 @@ impl<'t> Records<'t> {
     pub(crate) fn skip_rest(&mut self) -> Result<(), TextFault>
         requires { IsReading self.old }
         ensures few { OnOk result (self.old.taken + length (records_left self.old) ≤ MAX_ROWS) }
-        ensures fault { IfErr result (BlamesNoRow (MAX_ROWS < self.old.taken + length (records_left self.old))) }
+        ensures fault { IfErr result (BlamesLength (MAX_ROWS < self.old.taken + length (records_left self.old))) }
     {
         'rest: loop {
             if !self.advance()? {

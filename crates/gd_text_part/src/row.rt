@@ -1,3 +1,5 @@
+//! The rows of a text.
+
 use crate::date::CivilDate;
 use crate::zone::ZoneText;
 use gd_units::{Class, CycleNo, Dth, Kind, Name, Round};
@@ -10,9 +12,9 @@ pub enum Member {
     Pool,
 }
 
-/// A row of a text. Quantities are dekatherms a gas day.
-#[derive(Debug, Drop)]
-pub enum Row {
+/// A row that builds the pipeline. Quantities are dekatherms a gas day.
+#[derive(Clone, Copy, Debug, PartialEq, Eq)]
+pub enum PipelineRow {
     /// A one-way segment between two places.
     Segment {
         name: Name,
@@ -34,17 +36,16 @@ pub enum Row {
         place: Name,
         operator: Name,
     },
+}
+
+/// A row that heads a question or fills it. Quantities are dekatherms a gas day.
+#[derive(Clone, Copy, Debug, PartialEq, Eq)]
+pub enum QuestionRow {
     /// The head of a question.
-    Question {
+    Head {
         book: Name,
         cycle: CycleNo,
         round: Round,
-    },
-    /// The head of a gas day: its date, the time zone of its clock, and the name of its book, which a calendar doesn't need.
-    Day {
-        date: CivilDate,
-        zone: ZoneText,
-        book: Option<Name>,
     },
     /// Another capacity of a segment or point, in this question alone.
     Capacity {
@@ -59,7 +60,22 @@ pub enum Row {
         floor: Dth,
         ceiling: Dth,
     },
-    /// The scheduled quantity of a line; lines are counted from 1.
+}
+
+/// A row of a text, by what its kind of rows builds.
+#[derive(Debug, Drop)]
+pub enum Row {
+    /// A part of the pipeline.
+    Pipeline(PipelineRow),
+    /// The head of a question, or what fills it.
+    Question(QuestionRow),
+    /// The head of a gas day: its date, the time zone of its clock, and the name of its book, which a calendar doesn't need.
+    Day {
+        date: CivilDate,
+        zone: ZoneText,
+        book: Option<Name>,
+    },
+    /// The scheduled quantity of a line in dekatherms a gas day; lines are counted from 1.
     Sched {
         line: u32,
         quantity: Dth,

@@ -164,7 +164,9 @@ impl Tree {
     /// Joins a new place to an earlier one.
     pub fn push(&mut self, next: Segment) -> Result<(), AllocError>
         requires { Joins (length self.old) (segment next.from next.to next.capacity) }
-        ensures { MatchResult result (λ _. self.new ≡ self.old ++ segment next.from next.to next.capacity ∷ []) (λ _. self.new ≡ self.old) }
+        ensures { MatchResult result
+            (λ _. self.new ≡ self.old ++ segment next.from next.to next.capacity ∷ [])
+            (λ _. self.new ≡ self.old) }
     {
         let lift = if next.to < next.from {
             Lift {
@@ -224,7 +226,8 @@ impl Tree {
         requires from_known { from ≤ length self.now }
         requires to_known { to ≤ length self.now }
         ensures below { result ≤ from }
-        ensures same { has_route self.now (length self.now) result to ≡ has_route self.now (length self.now) from to }
+        ensures same { has_route self.now (length self.now) result to
+            ≡ has_route self.now (length self.now) from to }
     {
         let mut at = from;
         let mut up = self.lift(at).up;
@@ -240,7 +243,8 @@ impl Tree {
         requires from_known { from ≤ length self.now }
         requires to_known { to ≤ length self.now }
         ensures below { result ≤ to }
-        ensures same { has_route self.now (length self.now) from result ≡ has_route self.now (length self.now) from to }
+        ensures same { has_route self.now (length self.now) from result
+            ≡ has_route self.now (length self.now) from to }
     {
         let mut at = to;
         let mut down = self.lift(at).down;
@@ -274,7 +278,11 @@ impl Tree {
     pub fn route(&self, alloc: Global, from: u32, to: u32) -> Result<Option<Vec<u32>>, AllocError>
         requires from_known { from ≤ length self.now }
         requires to_known { to ≤ length self.now }
-        ensures { IfOk result (λ found. MatchOption found ((other : List ℕ) → IsRoute self.now from other to → ⊥) (λ r. (r.items ≡ route_of self.now (length self.now) from to) × IsRoute self.now from r.items to × ((other : List ℕ) → IsRoute self.now from other to → other ≡ r.items))) }
+        ensures { IfOk result
+            (λ found. MatchOption found ((other : List ℕ) → IsRoute self.now from other to → ⊥)
+            (λ r. (r.items ≡ route_of self.now (length self.now) from to)
+            × IsRoute self.now from r.items to
+            × ((other : List ℕ) → IsRoute self.now from other to → other ≡ r.items))) }
     {
         let mut front = Vec::new(alloc);
         let mut back = Vec::new(alloc);
@@ -302,7 +310,8 @@ impl Tree {
     pub fn passes(&self, from: u32, to: u32, segment: u32) -> bool
         requires from_known { from ≤ length self.now }
         requires to_known { to ≤ length self.now }
-        ensures { (if result then 1 else 0) ≡ count_by (λ k. k == segment) (route_of self.now (length self.now) from to) }
+        ensures { (if result then 1 else 0) ≡ count_by (λ k. k == segment)
+            (route_of self.now (length self.now) from to) }
     {
         let mut a = from;
         let mut b = to;

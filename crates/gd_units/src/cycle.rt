@@ -1,3 +1,5 @@
+//! When: cycles of a gas day, rounds of a question, and moments.
+
 ghost use Rattle.std.specs.Prelude.{◌≡◌, ◌≤◌, ◌<◌, ◌+◌, ℕ, ℤ, pos, ◌<ℤ◌, MatchOption, ◌⊎◌, Some};
 ghost use Rattle.std.specs.Fmt.{decimal};
 
@@ -23,11 +25,27 @@ impl Model for CycleNo {
 }
 
 impl CycleNo {
+    /// The number of the last cycle (NAESB WGQ 1.3.2).
+    pub const MAX: u8 = 5;
+
+    /// How many there are.
+    pub const COUNT: usize = 5;
+
+    /// All of them, in order.
+    pub const ALL: [CycleNo; CycleNo::COUNT] = [
+        CycleNo { number: 1 },
+        CycleNo { number: 2 },
+        CycleNo { number: 3 },
+        CycleNo { number: 4 },
+        CycleNo { number: 5 },
+    ];
+
     /// The cycle of this number, or `None` at 0 and above 5.
     pub fn new(number: u8) -> Option<CycleNo>
-        ensures { MatchOption result ((number ≡ 0) ⊎ (5 < number)) (λ cycle. (cycle ≡ number) × (1 ≤ number) × (number ≤ 5)) }
+        ensures { MatchOption result ((number ≡ 0) ⊎ (CycleNo.MAX < number))
+            (λ cycle. (cycle ≡ number) × (1 ≤ number) × (number ≤ CycleNo.MAX)) }
     {
-        if 1 <= number && number <= 5 {
+        if 1 <= number && number <= CycleNo::MAX {
             Some(CycleNo { number })
         } else {
             None
@@ -37,17 +55,18 @@ impl CycleNo {
     /// The number of the cycle.
     pub fn number(self) -> u8
         ensures is { result ≡ self }
-        ensures bounds { (1 ≤ result) × (result ≤ 5) }
+        ensures bounds { (1 ≤ result) × (result ≤ CycleNo.MAX) }
     {
         self.number
     }
 
     /// The cycle after this one, or `None` after Intraday 3.
     pub fn next(self) -> Option<CycleNo>
-        ensures { MatchOption result (self ≡ 5) (λ cycle. (cycle ≡ self + 1) × (self < 5)) }
+        ensures { MatchOption result (self ≡ CycleNo.MAX)
+            (λ cycle. (cycle ≡ self + 1) × (self < CycleNo.MAX)) }
     {
         let number = self.number;
-        if number < 5 {
+        if number < CycleNo::MAX {
             Some(CycleNo { number: number + 1 })
         } else {
             None
@@ -74,11 +93,15 @@ impl Model for Round {
 }
 
 impl Round {
+    /// The greatest number of a round (own limit).
+    pub const MAX: u32 = 1_000_000;
+
     /// The round of this number, or `None` at 0 and above 1,000,000.
     pub fn new(number: u32) -> Option<Round>
-        ensures { MatchOption result ((number ≡ 0) ⊎ (1_000_000 < number)) (λ round. (round ≡ number) × (1 ≤ number) × (number ≤ 1_000_000)) }
+        ensures { MatchOption result ((number ≡ 0) ⊎ (Round.MAX < number))
+            (λ round. (round ≡ number) × (1 ≤ number) × (number ≤ Round.MAX)) }
     {
-        if 1 <= number && number <= 1_000_000 {
+        if 1 <= number && number <= Round::MAX {
             Some(Round { number })
         } else {
             None
@@ -88,7 +111,7 @@ impl Round {
     /// The number of the round.
     pub fn number(self) -> u32
         ensures is { result ≡ self }
-        ensures bounds { (1 ≤ result) × (result ≤ 1_000_000) }
+        ensures bounds { (1 ≤ result) × (result ≤ Round.MAX) }
     {
         self.number
     }
@@ -113,12 +136,13 @@ impl Model for Moment {
 }
 
 impl Moment {
-    /// The greatest number of seconds.
+    /// The greatest number of seconds (own limit).
     pub const MAX: u64 = 4_200_000_000;
 
     /// The moment of this number of seconds, or `None` below 0 and above 4,200,000,000.
     pub fn new(seconds: i64) -> Option<Moment>
-        ensures { MatchOption result ((seconds <ℤ pos 0) ⊎ (pos 4_200_000_000 <ℤ seconds)) (λ moment. (pos moment ≡ seconds) × (moment ≤ 4_200_000_000)) }
+        ensures { MatchOption result ((seconds <ℤ pos 0) ⊎ (pos Moment.MAX <ℤ seconds))
+            (λ moment. (pos moment ≡ seconds) × (moment ≤ Moment.MAX)) }
     {
         match u64::try_from(seconds) {
             Ok(seconds) if seconds <= Moment::MAX => Some(Moment { seconds }),
@@ -129,7 +153,7 @@ impl Moment {
     /// The number of seconds.
     pub fn seconds(self) -> i64
         ensures is { result ≡ pos self }
-        ensures bound { self ≤ 4_200_000_000 }
+        ensures bound { self ≤ Moment.MAX }
     {
         self.seconds as i64
     }

@@ -1,3 +1,5 @@
+//! Names: of shippers, contracts, places, segments, points and pools.
+
 ghost use Rattle.std.specs.Prelude.{◌≡◌, ◌==◌, ℕ, List, Result, Ok, Err, Some};
 ghost use Rattle.std.specs.Ordering.{nat_cmp, as_partial_cmp};
 ghost use Rattle.std.specs.Cmp.{partial_order_from_own_ties};
@@ -5,7 +7,7 @@ ghost use Rattle.std.specs.Cmp.Lexicographic.{slice_cmp, pointwise};
 ghost use Rattle.std.specs.Cmp.Rules.{comparing, hashing};
 ghost use Rattle.std.specs.Hash as fed;
 ghost use Rattle.std.proofs.Common.{rules};
-ghost use Rattle.gd_units.specs.Names.{name_of};
+ghost use Rattle.gd_units.specs.Names.{name_of, name_fault_name};
 ghost use Rattle.gd_units.specs.Names as spec;
 
 use std::cmp::Ordering;
@@ -13,16 +15,20 @@ use std::fmt;
 use std::hash::{Hash, Hasher};
 use std::marker::Model;
 
-/// Why bytes are no name.
+/// Why bytes are no name, the first reason in this order. It is printed by its name alone.
 #[derive(Clone, Copy, PartialEq, Eq, Debug)]
 pub enum NameFault {
+    /// There is no byte.
     Empty,
+    /// There are more than 16 bytes (own limit).
     TooLong,
     /// The place of the first byte that no name has, from 0.
     BadByte(usize),
 }
 
-/// 1 to 16 bytes of `A` to `Z`, `0` to `9` and `-`.
+/// 1 to 16 bytes of `A` to `Z`, `0` to `9` and `-` (own limit).
+///
+/// A contract sees the bytes.
 #[derive(Clone, Copy, Debug)]
 pub struct Name {
     bytes: [u8; 16],
@@ -89,6 +95,7 @@ impl Name {
         })
     }
 
+    /// The name that a text spells.
     pub fn read(text: &str) -> Result<Name, NameFault>
         ensures { result ≡ name_of text.now }
     {
@@ -96,13 +103,14 @@ impl Name {
     }
 }
 
-// The place of the first byte that no name has.
+/// The place of the first byte that no name has.
 fn bad_byte(text: &[u8]) -> Option<usize>
     ensures { result ≡ spec.bad_byte text.now }
 {
     text.iter().position(|b| !is_name_byte(*b))
 }
 
+/// Whether a name may have this byte: an upper case letter, a digit or `-`.
 fn is_name_byte(b: u8) -> bool
     ensures { result ≡ spec.is_name_byte b }
 {
@@ -154,6 +162,18 @@ impl Hash for Name {
 
     fn hash<H: Hasher>(&self, state: &mut H) {
         self.as_bytes().hash(state);
+    }
+}
+
+impl fmt::Display for NameFault {
+    ghost output = { λ f. Some (name_fault_name f) };
+
+    fn fmt<W: fmt::Write>(&self, f: &mut fmt::Formatter<W>) -> fmt::Result {
+        match self {
+            NameFault::Empty => f.write_str("Empty"),
+            NameFault::TooLong => f.write_str("TooLong"),
+            NameFault::BadByte(_) => f.write_str("BadByte"),
+        }
     }
 }
 

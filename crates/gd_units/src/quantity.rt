@@ -1,10 +1,13 @@
+//! Quantities of gas: whole dekatherms for one gas day.
+
 ghost use Rattle.std.specs.Prelude.{◌≡◌, ◌≤◌, ◌<◌, ℕ, MatchResult, Some};
 ghost use Rattle.std.specs.Fmt.{decimal};
+ghost use Rattle.gd_units.specs.Names.{dth_fault_name};
 
 use std::fmt;
 use std::marker::Model;
 
-/// Why a number is no quantity.
+/// Why a number is no quantity. It is printed by its name.
 #[derive(Clone, Copy, Debug, PartialEq, Eq)]
 pub enum DthFault {
     /// The number is above 1,000,000,000.
@@ -30,12 +33,15 @@ impl Model for Dth {
 }
 
 impl Dth {
-    /// The greatest quantity.
+    /// The number of dekatherms of the greatest quantity (own limit).
     pub const MAX: u64 = 1_000_000_000;
+
+    /// No gas.
+    pub const ZERO: Dth = Dth { value: 0 };
 
     /// The quantity of this number, where it is not too large.
     pub fn new(value: u64) -> Result<Dth, DthFault>
-        ensures { MatchResult result (λ d. (d ≡ value) × (value ≤ 1_000_000_000)) (λ e. 1_000_000_000 < value) }
+        ensures { MatchResult result (λ d. (d ≡ value) × (value ≤ Dth.MAX)) (λ e. Dth.MAX < value) }
     {
         if value <= Dth::MAX {
             Ok(Dth { value })
@@ -47,9 +53,19 @@ impl Dth {
     /// The number of dekatherms.
     pub fn get(self) -> u64
         ensures is { result ≡ self }
-        ensures bound { result ≤ 1_000_000_000 }
+        ensures bound { result ≤ Dth.MAX }
     {
         self.value
+    }
+}
+
+impl fmt::Display for DthFault {
+    ghost output = { λ f. Some (dth_fault_name f) };
+
+    fn fmt<W: fmt::Write>(&self, f: &mut fmt::Formatter<W>) -> fmt::Result {
+        match self {
+            DthFault::TooLarge => f.write_str("TooLarge"),
+        }
     }
 }
 

@@ -1,3 +1,5 @@
+//! What a shipper buys: priority classes, rate bands, and the ends of a line.
+
 ghost use Rattle.std.specs.Prelude.{◌≡◌, ◌≤◌, ◌<◌, ℕ, MatchOption, ◌⊎◌, Some};
 
 use std::fmt;
@@ -22,11 +24,30 @@ impl Model for Class {
 }
 
 impl Class {
+    /// The number of the last class (own limit).
+    pub const MAX: u8 = 8;
+
+    /// How many there are.
+    pub const COUNT: usize = 8;
+
+    /// All of them, in order.
+    pub const ALL: [Class; Class::COUNT] = [
+        Class { number: 1 },
+        Class { number: 2 },
+        Class { number: 3 },
+        Class { number: 4 },
+        Class { number: 5 },
+        Class { number: 6 },
+        Class { number: 7 },
+        Class { number: 8 },
+    ];
+
     /// The class of this number, or `None` at 0 and above 8.
     pub fn new(number: u8) -> Option<Class>
-        ensures { MatchOption result ((number ≡ 0) ⊎ (8 < number)) (λ class. (class ≡ number) × (1 ≤ number) × (number ≤ 8)) }
+        ensures { MatchOption result ((number ≡ 0) ⊎ (Class.MAX < number))
+            (λ class. (class ≡ number) × (1 ≤ number) × (number ≤ Class.MAX)) }
     {
-        if 1 <= number && number <= 8 {
+        if 1 <= number && number <= Class::MAX {
             Some(Class { number })
         } else {
             None
@@ -36,7 +57,7 @@ impl Class {
     /// The number of the class.
     pub fn number(self) -> u8
         ensures is { result ≡ self }
-        ensures bounds { (1 ≤ result) × (result ≤ 8) }
+        ensures bounds { (1 ≤ result) × (result ≤ Class.MAX) }
     {
         self.number
     }
@@ -61,11 +82,27 @@ impl Model for Band {
 }
 
 impl Band {
+    /// The number of the last band (own limit).
+    pub const MAX: u8 = 5;
+
+    /// How many there are.
+    pub const COUNT: usize = 5;
+
+    /// All of them, in order.
+    pub const ALL: [Band; Band::COUNT] = [
+        Band { number: 1 },
+        Band { number: 2 },
+        Band { number: 3 },
+        Band { number: 4 },
+        Band { number: 5 },
+    ];
+
     /// The band of this number, or `None` at 0 and above 5.
     pub fn new(number: u8) -> Option<Band>
-        ensures { MatchOption result ((number ≡ 0) ⊎ (5 < number)) (λ band. (band ≡ number) × (1 ≤ number) × (number ≤ 5)) }
+        ensures { MatchOption result ((number ≡ 0) ⊎ (Band.MAX < number))
+            (λ band. (band ≡ number) × (1 ≤ number) × (number ≤ Band.MAX)) }
     {
-        if 1 <= number && number <= 5 {
+        if 1 <= number && number <= Band::MAX {
             Some(Band { number })
         } else {
             None
@@ -75,7 +112,7 @@ impl Band {
     /// The number of the band.
     pub fn number(self) -> u8
         ensures is { result ≡ self }
-        ensures bounds { (1 ≤ result) × (result ≤ 5) }
+        ensures bounds { (1 ≤ result) × (result ≤ Band.MAX) }
     {
         self.number
     }
@@ -93,6 +130,8 @@ pub enum Kind {
 /// One of the two ends of a line.
 #[derive(Clone, Copy, Debug, PartialEq, Eq, PartialOrd, Ord, Hash)]
 pub enum End {
+    /// Where its gas comes into the pipeline or out of a pool.
     Origin,
+    /// Where it leaves the pipeline or goes into a pool.
     Dest,
 }

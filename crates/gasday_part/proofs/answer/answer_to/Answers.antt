@@ -1,5 +1,5 @@
-use Rattle.gasday_part.proofs.Finding.{finds}
+use Rattle.gasday_part.proofs.Finding.{reads}
 use Rattle.gasday_part.proofs.answer.answer_to.Goals as goal
 
 pub returns-in-Ok : goal.returns-in-Ok
-returns-in-Ok g c = finds c.args.command _ c.in-Ok.rows.items c.answer_to_rows.result (rw c.form.ensures at c.in-Ok.ensures) (rw c.as_slice.ensures.value at c.answer_to_rows.ensures)
+returns-in-Ok g c = reads c.args.command _ c.in-Ok.text.items c.answer_of.result c.in-Ok.ensures.bytes (rw c.as_slice.ensures.value at c.answer_of.ensures)

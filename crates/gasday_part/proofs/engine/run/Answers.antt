@@ -4,4 +4,4 @@ use Rattle.gasday_part.proofs.engine.run.Goals as goal
 pub returns-in-Err : goal.returns-in-Err
 returns-in-Err g c =
     let some = c.tell_no_memory.ensures.front in
-    rw c.tell_no_memory.ensures.status (told_none c.args.command _ _ _ some.0 some.1 some.2)
+    rw c.tell_no_memory.ensures.status (told_none c.args.command _ _ _ some.0 some.2)

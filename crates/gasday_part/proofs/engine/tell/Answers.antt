@@ -6,7 +6,7 @@ use Rattle.gasday_part.proofs.engine.tell.Goals as goal
 pub returns-in_default : goal.returns-in_default
 returns-in_default g c =
     let some = c.tell_no_memory.ensures.front in
-    rw c.tell_no_memory.ensures.status (no_memory_after _ _ _ (record { replies = c.args.replies.now; status = c.args.status }) c.replies.reply-index some.0 some.1 c.replies.invariant some.2)
+    rw c.tell_no_memory.ensures.status (no_memory_after _ _ _ (record { replies = c.args.replies.now; status = c.args.status }) c.replies.reply-index some.0 c.replies.invariant some.2)
 
 pub returns-then-is_err : goal.returns-then-is_err
 returns-then-is_err g c =

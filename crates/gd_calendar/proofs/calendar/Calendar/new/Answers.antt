@@ -1,4 +1,7 @@
-use Rattle.std.proofs.Common.{◌≡◌, ℕ, List, refl, subst, sym}
+use Rattle.std.proofs.Common.{◌≡◌, ℕ, List, Result, Err, refl, subst, sym}
+use Rattle.std.specs.Result.{IsErrAnd}
+use Rattle.gd_calendar.specs.declared.calendar.CalendarFault.{CalendarFault}
+use Rattle.gd_calendar.specs.declared.calendar.CalendarFault.TheVariants.{BadZone, OutOfMemory}
 use Rattle.std.proofs.lemmas.Bool.{iff_false}
 use Rattle.jiff.specs.Words.{plain_zone}
 use Rattle.jiff.specs.Types.{Date}
@@ -21,18 +24,26 @@ returns-then-not-is_calendar-clause-bad_zone c =
       λ _. refl,
     )
 
-pub returns-in-Ok-clause-ok : goal.returns-in-Ok-clause-ok
-returns-in-Ok-clause-ok c =
+pub returns-clause-ok : goal.returns-clause-ok
+returns-clause-ok c =
     let are : AreMoments (plain_zone c.args.zone.now) c.args.day civil_times c.in-Some.moments = subst (λ (date : Date). AreMoments (plain_zone c.args.zone.now) date civil_times c.in-Some.moments) c.date.ensures.is c.in-Some.ensures in
     let there : IsCalendarOf (plain_zone c.args.zone.now) c.args.day c.in-Some.moments = record { times = are; calendar = c.is_calendar.ensures.0 c.if-not-is_calendar.false } in
-    subst (λ (ms : List ℕ). IsCalendarOf (plain_zone c.args.zone.now) c.args.day ms) (sym c.in-Ok.ensures.items) there
+    subst (λ (ms : List ℕ). IsCalendarOf (plain_zone c.args.zone.now) c.args.day ms) (sym c.in_ok-moments.ensures.items) there
 
-pub returns-in-Ok-clause-bad_zone : goal.returns-in-Ok-clause-bad_zone
-returns-in-Ok-clause-bad_zone c =
+pub returns-clause-bad_zone : goal.returns-clause-bad_zone
+returns-clause-bad_zone c =
     let are : AreMoments (plain_zone c.args.zone.now) c.args.day civil_times c.in-Some.moments = subst (λ (date : Date). AreMoments (plain_zone c.args.zone.now) date civil_times c.in-Some.moments) c.date.ensures.is c.in-Some.ensures in
     (λ e. cc, λ bad. absurd (bad c.in-Some.moments (record { times = are; calendar = c.is_calendar.ensures.0 c.if-not-is_calendar.false })))
 
-pub returns-in-Err-clause-bad_zone : goal.returns-in-Err-clause-bad_zone
-returns-in-Err-clause-bad_zone c =
-    let are : AreMoments (plain_zone c.args.zone.now) c.args.day civil_times c.in-Some.moments = subst (λ (date : Date). AreMoments (plain_zone c.args.zone.now) date civil_times c.in-Some.moments) c.date.ensures.is c.in-Some.ensures in
-    (λ e. cc, λ bad. absurd (bad c.in-Some.moments (record { times = are; calendar = c.is_calendar.ensures.0 c.if-not-is_calendar.false })))
+-- want of memory is told as no bad zone
+want_of_memory : {V : Type 0} (r : Result V CalendarFault) → IsErrAnd r (λ e. e ≡ OutOfMemory) → r ≡ Err BadZone → ⊥
+want_of_memory {V} r h e =
+    let other : BadZone ≡ OutOfMemory = subst (λ (s : Result V CalendarFault). IsErrAnd s (λ f. f ≡ OutOfMemory)) e h in
+    cc
+
+pub returns-in_err-moments-clause-bad_zone : goal.returns-in_err-moments-clause-bad_zone
+returns-in_err-moments-clause-bad_zone c =
+    let are : AreMoments (plain_zone c.args.zone.now) c.args.day civil_times c.in-Some.moments = subst (λ (date : Date). AreMoments (plain_zone c.args.zone.now) date civil_times c.in-Some.moments) c.date.ensures.is c.in-Some.ensures in (
+      λ e. absurd (want_of_memory c.from_residual.result c.from_residual.ensures.1 e),
+      λ bad. absurd (bad c.in-Some.moments (record { times = are; calendar = c.is_calendar.ensures.0 c.if-not-is_calendar.false })),
+    )

@@ -16,6 +16,6 @@ pub returns-clause-classed : goal.returns-clause-classed
 returns-clause-classed c =
     let h = held_of c.self.inside in
     let found = subst (λ (x : Held). contract_named x.contracts c.args.contract ≡ Some c.in-Some.agreed) (sym c.self.view_is) (sym c.contract.ensures ∙ c.in-Some.is) in
-    let told = told_is h c.args.contract c.args.origin c.args.dest c.in-Some.agreed c.in-Ok.line c.class_under.result found (sym c.ends.ensures.is ∙ c.in-Ok.is) c.class_under.ensures in
+    let told = told_is h c.args.contract c.args.origin c.args.dest c.in-Some.agreed c.in_ok-line.line c.class_under.result found (sym c.ends.ensures.is ∙ c.in_ok-line.was) c.class_under.ensures in
     subst (λ (x : Held). HasClass x c.args.contract c.args.origin c.args.dest c.class_under.result) c.self.view_is
     (class_is h c.args.contract c.args.origin c.args.dest c.class_under.result c.self.invariant told)

@@ -10,16 +10,16 @@ returns-in-None-clause-is c =
     ∙ checked_segment_is (pipeline_of c.self.inside) c.args.self.now c.args.name c.args.from c.args.to c.len-count.result c.eq.result c.get_index_of-a.result c.get_index_of-b.result c.joining.result c.self.view_is
     (sym c.has.ensures ∙ c.if-has.false) c.len-count.ensures.is c.eq.ensures c.get_index_of-a.ensures.index c.get_index_of-b.ensures.index c.joining.ensures.is
 
-pub returns-then-count-ge4095-clause-is : goal.returns-then-count-ge4095-clause-is
-returns-then-count-ge4095-clause-is c =
-    sym (too_many c.len-count.result c.in-Some.joined c.if-count-ge4095.true)
+pub returns-then-count-ge-MAX_SEGMENTS-clause-is : goal.returns-then-count-ge-MAX_SEGMENTS-clause-is
+returns-then-count-ge-MAX_SEGMENTS-clause-is c =
+    sym (too_many c.len-count.result c.in-Some.joined c.if-count-ge-MAX_SEGMENTS.true)
     ∙ ap (joined_within c.len-count.result) (sym c.in-Some.is)
     ∙ checked_segment_is (pipeline_of c.self.inside) c.args.self.now c.args.name c.args.from c.args.to c.len-count.result c.eq.result c.get_index_of-a.result c.get_index_of-b.result c.joining.result c.self.view_is
     (sym c.has.ensures ∙ c.if-has.false) c.len-count.ensures.is c.eq.ensures c.get_index_of-a.ensures.index c.get_index_of-b.ensures.index c.joining.ensures.is
 
-pub returns-else-count-ge4095-clause-is : goal.returns-else-count-ge4095-clause-is
-returns-else-count-ge4095-clause-is c =
-    sym (few_enough c.len-count.result c.in-Some.joined c.if-count-ge4095.false)
+pub returns-else-count-ge-MAX_SEGMENTS-clause-is : goal.returns-else-count-ge-MAX_SEGMENTS-clause-is
+returns-else-count-ge-MAX_SEGMENTS-clause-is c =
+    sym (few_enough c.len-count.result c.in-Some.joined c.if-count-ge-MAX_SEGMENTS.false)
     ∙ ap (joined_within c.len-count.result) (sym c.in-Some.is)
     ∙ checked_segment_is (pipeline_of c.self.inside) c.args.self.now c.args.name c.args.from c.args.to c.len-count.result c.eq.result c.get_index_of-a.result c.get_index_of-b.result c.joining.result c.self.view_is
     (sym c.has.ensures ∙ c.if-has.false) c.len-count.ensures.is c.eq.ensures c.get_index_of-a.ensures.index c.get_index_of-b.ensures.index c.joining.ensures.is

@@ -20,14 +20,14 @@ unreachable-requires c =
     let ends = c.in_ok-ends.ends in
     let told : ends_of p c.args.origin c.args.dest ≡ Ok ends = ap (λ (x : Pipeline). ends_of x c.args.origin c.args.dest) c.self.view_is ∙ sym c.in_ok-ends.ensures.is in
     let some = some_route p c.self.invariant ends (told_are p c.self.invariant c.args.origin c.args.dest ends told) in
-    let none = rw c.in-Ok-None.field-0-is at c.in-Ok-None.ensures in
+    let none = rw c.in-None.is at c.in_ok-found.ensures in
     none _ some
 
-pub returns-in-Ok-Some-clause-found : goal.returns-in-Ok-Some-clause-found
-returns-in-Ok-Some-clause-found c =
+pub returns-clause-found : goal.returns-clause-found
+returns-clause-found c =
     let now = c.args.self.now in
     let ends = c.in_ok-ends.ends in
     let told : ends_of now c.args.origin c.args.dest ≡ Ok ends = sym c.in_ok-ends.ensures.is in
-    let is = (rw c.in-Ok-Some.field-0-is at c.in-Ok-Some.ensures).0 in
-    found_route now (subst IsSystem c.self.view_is c.self.invariant) c.args.origin c.args.dest ends told c.in-Ok-Some.segments.items
+    let is = (rw c.in-Some.is at c.in_ok-found.ensures).0 in
+    found_route now (subst IsSystem c.self.view_is c.self.invariant) c.args.origin c.args.dest ends told c.in-Some.segments.items
     (is ∙ ap (λ (x : Pipeline). route_of x.tree (length x.tree) ends.origin_place.0 ends.dest_place.0) c.self.view_is)

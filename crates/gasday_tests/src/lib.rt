@@ -1,0 +1,11 @@
+//! The program's parts by calls: words, texts from slow and failing readers, answers to slow and failing writers.
+//!
+//! There is nothing here but tests.
+#![tactic(auto)]
+
+#[cfg(test)]
+mod reading;
+#[cfg(test)]
+mod running;
+#[cfg(test)]
+mod words;

@@ -1,0 +1,101 @@
+//! Which words are taken, and what the texts say.
+
+use gasday_part::{Command, UsageFault, command_of};
+use std::test::Fail;
+
+const LINES: [(&[&str], &str); 31] = [
+    (&[], "allowed"),
+    (&["gasday"], "allowed"),
+    (&["gasday", "check", "allowed"], "allowed"),
+    (&["out/another-name", "check", "allowed"], "allowed"),
+    (&["gasday", "check", "best"], "best"),
+    (&["gasday", "check", "cut"], "cut"),
+    (&["gasday", "solve"], "solve"),
+    (&["gasday", "calendar"], "calendar"),
+    (&["gasday", "--help"], "help"),
+    (&["gasday", "-h"], "help"),
+    (&["gasday", "help"], "help"),
+    (&["gasday", "help", "check"], "help"),
+    (&["gasday", "check", "--help"], "help"),
+    (&["gasday", "solve", "--help"], "help of solve"),
+    (&["gasday", "calendar", "--help"], "help of calendar"),
+    (&["gasday", "solve", "best"], "usage"),
+    (&["gasday", "solve", "--nonsense"], "usage"),
+    (&["gasday", "check", "solve"], "usage"),
+    (&["gasday", "Solve"], "usage"),
+    (&["gasday", "calendar", "2026-03-08"], "usage"),
+    (&["gasday", "check", "calendar"], "usage"),
+    (&["gasday", "nonsense"], "usage"),
+    (&["gasday", ""], "usage"),
+    (&["gasday", "Check", "allowed"], "usage"),
+    (&["gasday", "allowed"], "usage"),
+    (&["gasday", "check"], "usage"),
+    (&["gasday", "check", "all"], "usage"),
+    (&["gasday", "check", "allowed", "allowed"], "usage"),
+    (&["gasday", "--nonsense"], "usage"),
+    (&["gasday", "check", "--nonsense"], "usage"),
+    (&["gasday", "check", "allowed", "--nonsense"], "usage"),
+];
+
+/// The kind of the answer, with its text, or None where memory is short.
+fn told(rt: &HostRuntime, words: &[&str]) -> Option<(&'static str, String)> {
+    match command_of(rt.alloc(), words) {
+        Ok(Command::CheckAllowed) => Some(("allowed", String::new(rt.alloc()))),
+        Ok(Command::CheckBest) => Some(("best", String::new(rt.alloc()))),
+        Ok(Command::CheckCut) => Some(("cut", String::new(rt.alloc()))),
+        Ok(Command::Solve) => Some(("solve", String::new(rt.alloc()))),
+        Ok(Command::Calendar) => Some(("calendar", String::new(rt.alloc()))),
+        Err(UsageFault::Help(text)) => Some(("help", text)),
+        Err(UsageFault::Usage(text)) => Some(("usage", text)),
+        Err(UsageFault::OutOfMemory) => None,
+    }
+}
+
+fn reads_well(answer: &str, text: &str) -> bool {
+    match answer {
+        "help of solve" => {
+            text.contains("\n  gasday solve < examples/solve/question.csv\n")
+                && text.ends_with('\n')
+        }
+        "help of calendar" => {
+            text.contains("\n  gasday calendar < examples/gas-day.csv\n") && text.ends_with('\n')
+        }
+        "help" => {
+            text.contains("'check allowed'")
+                && text.contains("\n  gasday check allowed < examples/two-lines.csv\n")
+                && text.ends_with('\n')
+        }
+        "usage" => text.starts_with("error: ") && text.ends_with(" try '--help'.\n"),
+        _ => text.is_empty(),
+    }
+}
+
+#[test]
+fn each_line_has_its_answer(rt: HostRuntime) -> Result<(), Fail> {
+    for (words, wanted) in LINES {
+        let (answer, text) = told(&rt, words).ok_or("out of memory")?;
+        assert!(rt; wanted.starts_with(answer), "at {words:?}");
+        assert!(rt; reads_well(wanted, text.as_str()), "at {words:?}: {text}");
+    }
+    Ok(())
+}
+
+#[test]
+fn a_fault_is_shown_by_its_text(rt: HostRuntime) -> Result<(), Fail> {
+    let alloc = rt.alloc();
+    let Err(fault) = command_of(alloc, &["gasday", "check", "all"]) else {
+        return Err(Fail::from("there is no such check"));
+    };
+    let shown = fault.to_string(alloc)?;
+    assert!(rt;
+        shown
+            .as_str()
+            .starts_with("error: invalid value 'all' for '<WHAT>'\n"),
+        "{shown}"
+    );
+    assert_eq!(rt;
+        UsageFault::OutOfMemory.to_string(alloc)?.as_str(),
+        "error: out of memory\n"
+    );
+    Ok(())
+}
