@@ -1,0 +1,65 @@
+//! What is published of a cycle.
+
+ghost use Rattle.std.specs.Prelude.{◌≡◌, IfOk};
+
+use gd_certificate::Prices;
+use gd_cost::Tariff;
+use gd_question::Question;
+use gd_schedule::Schedule;
+use gd_units::{CycleNo, Dth, Name, Round};
+use std::alloc::{AllocError, Global};
+use std::marker::Model;
+
+/// The lines that a schedule bumps, by number, each with the dekatherms a gas day that it takes from them (NAESB WGQ 1.3.2).
+///
+/// A contract sees the list.
+#[derive(Debug, Drop)]
+pub struct Bumped {
+    lines: Vec<(u32, Dth)>,
+}
+
+impl Model for Bumped {
+    ghost use Rattle.std.specs.Prelude.{ℕ, List};
+
+    ghost Value = { List (ℕ × ℕ) };
+
+    ghost view = { λ b. b.lines.items };
+}
+
+impl Bumped {
+    /// These lines, in this order.
+    pub fn of(lines: Vec<(u32, Dth)>) -> Bumped
+        ensures { result ≡ lines.items }
+    {
+        Bumped { lines }
+    }
+
+    /// The lines with what is taken from them, in order.
+    pub fn lines(&self) -> &[(u32, Dth)]
+        ensures { result.now ≡ self.now }
+    {
+        self.lines.as_slice()
+    }
+
+    /// Another list of the same lines. The only error is want of memory.
+    pub fn try_clone(&self, alloc: Global) -> Result<Bumped, AllocError>
+        ensures { IfOk result (λ copy. copy ≡ self.now) }
+    {
+        let lines = Vec::from_slice(alloc, &self.lines)?;
+        Ok(Bumped { lines })
+    }
+}
+
+/// What is published of a cycle: the question that was frozen, its best schedule with the prices that show it best, and the
+/// lines that it bumps.
+#[derive(Drop)]
+pub struct Posting {
+    /// The name of the book that published it.
+    pub book: Name,
+    pub cycle: CycleNo,
+    pub round: Round,
+    pub question: Question,
+    pub schedule: Schedule,
+    pub prices: Prices<Tariff>,
+    pub bumped: Bumped,
+}
