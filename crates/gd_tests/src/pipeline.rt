@@ -1,7 +1,7 @@
 //! A pipeline by name: its elements and places, its routes, and what makes it another one.
 
 use crate::texts::asked;
-use gd_system::{Element, Kind, Part, PlaceId, RouteFault, System};
+use gd_system::{Element, Part, PlaceId, System};
 use gd_units::{Dth, Name};
 use std::alloc::{AllocError, Global};
 use std::process::Abort;
@@ -75,41 +75,6 @@ fn elements_and_places(rt: HostRuntime) -> Result<(), Fail> {
     shows_counts(&rt, system);
     shows_names(&rt, system);
     shows_parts(&rt, system);
-    Ok(())
-}
-
-fn has_route(
-    rt: &impl Abort,
-    alloc: Global,
-    system: &System,
-    ends: (&str, &str),
-    wanted: &[u32],
-) -> Result<(), RouteFault> {
-    let route = system.route(alloc, name(rt, ends.0), name(rt, ends.1))?;
-    assert_eq!(rt; route.segments(), wanted, "{ends:?}");
-    Ok(())
-}
-
-fn has_routes(rt: &impl Abort, alloc: Global, system: &System) -> Result<(), RouteFault> {
-    has_route(rt, alloc, system, ("RD", "DC"), [2, 1].as_slice())?;
-    has_route(rt, alloc, system, ("RA", "HUB"), [0].as_slice())?;
-    has_route(rt, alloc, system, ("RA", "DA"), [].as_slice())?;
-    for (origin, dest, fault) in [
-        ("RA", "OP", RouteFault::UnknownEnd),
-        ("DC", "HUB", RouteFault::WrongEnd),
-        ("HUB", "HUB", RouteFault::SameEnd),
-        ("RD", "DA", RouteFault::NoRoute),
-    ] {
-        let ends = system.ends(name(rt, origin), name(rt, dest));
-        assert_eq!(rt; ends.err(), Some(fault), "{origin} to {dest}");
-    }
-    Ok(())
-}
-
-#[test]
-fn routes(rt: HostRuntime) -> Result<(), Fail> {
-    let asked = asked(rt.alloc(), BRANCH.as_bytes())?;
-    has_routes(&rt, rt.alloc(), asked.question.system())?;
     Ok(())
 }
 
