@@ -13,7 +13,7 @@ use Rattle.gd_system.specs.Route.{ends_of}
 use Rattle.gd_system.specs.declared.part.Ends.{Ends}
 use Rattle.gd_system.specs.declared.RouteFault.{RouteFault}
 use Rattle.gd_contracts.specs.Held.{Held, contract_named, refusal, primary_refusal, routed_within, checked_contract, with_contract}
-use Rattle.gd_contracts.specs.Known.{IsRouted, IsHeld}
+use Rattle.gd_contracts.specs.Known.{IsServed, IsBanded, IsHeld}
 use Rattle.gd_contracts.specs.Inside.{contract_of}
 use Rattle.gd_contracts.specs.declared.contract.Contract.{Contract}
 use Rattle.gd_contracts.specs.declared.contract.Service.{Service}
@@ -73,9 +73,9 @@ unrefused : (r : Result Ends RouteFault) → refusal r ≡ None → (ends : Ends
 unrefused (Ok ends) h = (ends, refl)
 unrefused (Err fault) h = cc
 
-service_routed : (p : Pipeline) (service : Service) → primary_refusal p service ≡ None → IsRouted p service
-service_routed p (Firm origin dest) h = unrefused (ends_of p origin dest) h
-service_routed p (Interruptible band) h = tt
+service_served : (p : Pipeline) (service : Service) → primary_refusal p service ≡ None → IsBanded service → IsServed p service
+service_served p (Firm origin dest) h b = unrefused (ends_of p origin dest) h
+service_served p (Interruptible band) h b = b
 
 passed : (h : Held) (name : List ℕ) (service : Service) (u : Unit {0}) → checked_contract h name service ≡ Ok u → primary_refusal h.pipeline service ≡ None
 passed h name service u e = go (is_some (contract_named h.contracts name)) (primary_refusal h.pipeline service) refl e
@@ -94,25 +94,25 @@ map_push [] e = refl
 map_push (x ∷ es) e = ap (λ l. contract_of x ∷ l) (map_push es e)
 
 -- one contract more
-pub contract_kept : (h : Held) (c : Contract) (u : Unit {0}) → IsHeld h → checked_contract h c.name c.service ≡ Ok u → length h.contracts < 4096 → IsDistinct same_name (map (λ x. x.name) (h.contracts ++ c ∷ []))
+pub contract_kept : (h : Held) (c : Contract) (u : Unit {0}) → IsHeld h → checked_contract h c.name c.service ≡ Ok u → IsBanded c.service → length h.contracts < 4096 → IsDistinct same_name (map (λ x. x.name) (h.contracts ++ c ∷ []))
     → IsHeld (with_contract h c)
-contract_kept h c u k e few distinct =
+contract_kept h c u k e banded few distinct =
     let more : length (h.contracts ++ c ∷ []) ≡ length h.contracts + 1 = length-append h.contracts (c ∷ []) in
     record {
       system = k.system;
       few = omega arith;
       distinct = distinct;
-      routed = All-push (λ x. IsRouted h.pipeline x.service) h.contracts c k.routed (service_routed h.pipeline c.service (passed h c.name c.service u e));
+      served = All-push (λ x. IsServed h.pipeline x.service) h.contracts c k.served (service_served h.pipeline c.service (passed h c.name c.service u e) banded);
     }
 
 -- the contract that is found is one of them
-pub found_routed : (p : Pipeline) (contracts : List Contract) (name : List ℕ) (c : Contract) → All (λ x. IsRouted p x.service) contracts → contract_named contracts name ≡ Some c → IsRouted p c.service
-found_routed p [] name c all e = cc
-found_routed p (x ∷ xs) name c all e = go (same_name name x.name) e (found_routed p xs name c (All-tail (λ x. IsRouted p x.service) x xs all))
+pub found_served : (p : Pipeline) (contracts : List Contract) (name : List ℕ) (c : Contract) → All (λ x. IsServed p x.service) contracts → contract_named contracts name ≡ Some c → IsServed p c.service
+found_served p [] name c all e = cc
+found_served p (x ∷ xs) name c all e = go (same_name name x.name) e (found_served p xs name c (All-tail (λ x. IsServed p x.service) x xs all))
   where
-    here : IsRouted p x.service
+    here : IsServed p x.service
     here = all 0 x (omega arith)
 
-    go : (v : Bool) → cond v (Some x) (contract_named xs name) ≡ Some c → (contract_named xs name ≡ Some c → IsRouted p c.service) → IsRouted p c.service
-    go true e ih = let same : x ≡ c = cc in subst (λ z. IsRouted p z.service) same here
+    go : (v : Bool) → cond v (Some x) (contract_named xs name) ≡ Some c → (contract_named xs name ≡ Some c → IsServed p c.service) → IsServed p c.service
+    go true e ih = let same : x ≡ c = cc in subst (λ z. IsServed p z.service) same here
     go false e ih = ih e

@@ -6,7 +6,7 @@ ghost use Rattle.gd_rules.specs.Class.Service.{Firm as firm};
 ghost use Rattle.gd_system.specs.Route.{ends_of, AreEnds};
 ghost use Rattle.gd_system.specs.declared.RouteFault.{RouteFault};
 ghost use Rattle.gd_contracts.specs.Held.{Held, contract_named};
-ghost use Rattle.gd_contracts.specs.Known.{IsHeld, IsRouted};
+ghost use Rattle.gd_contracts.specs.Known.{IsHeld, IsServed};
 ghost use Rattle.gd_contracts.specs.Classes.{route_between, bought, class_between, class_told, HasClass};
 
 use crate::{ClassFault, Contracts, Service};
@@ -65,7 +65,7 @@ fn firm_class(system: &System, primary: Ends, line: Ends) -> Class
 
 /// The class of a line under the service of a contract that is held.
 fn class_under(system: &System, service: Service, line: Ends) -> Class
-    requires routed { IsRouted system.now service }
+    requires routed { IsServed system.now service }
     requires line_ends { AreEnds system.now line }
     ensures { class_between system.now line (bought system.now service) ≡ Ok result }
 {

@@ -3,7 +3,7 @@
 ghost use Rattle.std.specs.Prelude.{◌≡◌, ◌<◌, ◌==◌, ◌++◌, ◌∷◌, [], length, None, Some, IfErr, OnOk, OnErr, Ok, Err, ◌⊎◌};
 ghost use Rattle.gd_contracts.specs.Held.{none_on, contract_named, checked_contract, after_contract};
 ghost use Rattle.gd_contracts.specs.Held as spec;
-ghost use Rattle.gd_contracts.specs.Known.{IsHeld};
+ghost use Rattle.gd_contracts.specs.Known.{IsHeld, IsBanded};
 ghost use Rattle.gd_contracts.specs.Inside.{contract_of};
 ghost use Rattle.gd_system.specs.Pipeline.{same_name};
 ghost use Rattle.indexmap.specs.IndexMap.{spare, get, IsUnique};
@@ -51,6 +51,15 @@ fn primary_refusal(system: &System, service: Service) -> Option<RouteFault>
     match service {
         Service::Firm { origin, dest } => system.ends(origin, dest).err(),
         Service::Interruptible { .. } => None,
+    }
+}
+
+/// Reads the band of interruptible service, so that it is known to be one of the rate bands.
+fn read_band(service: Service)
+    ensures { IsBanded service }
+{
+    if let Service::Interruptible { band } = service {
+        let _number = band.number();
     }
 }
 
@@ -163,6 +172,7 @@ impl Contracts {
         let name = contract.name;
         let terms = terms_of(contract);
         self.check(name, terms.service)?;
+        read_band(terms.service);
         self.terms.reserve(1)?;
         enter(&mut self.terms, name, terms);
         Ok(())

@@ -3,7 +3,7 @@ use Rattle.std.specs.List.{IsDistinct}
 use Rattle.std.specs.Map.{lookup}
 use Rattle.gd_system.specs.Pipeline.{same_name}
 use Rattle.gd_contracts.specs.Held.{Held, contract_named, checked_contract}
-use Rattle.gd_contracts.specs.Known.{IsHeld}
+use Rattle.gd_contracts.specs.Known.{IsHeld, IsBanded}
 use Rattle.gd_contracts.specs.Inside.{held_of, contract_of}
 use Rattle.gd_contracts.specs.declared.contract.Contract.{Contract}
 use Rattle.gd_contracts.specs.declared.contracts.Terms.{Terms}
@@ -29,7 +29,8 @@ invariant_of-self-2 c =
     ap (checked_contract h contract.name) (sym (ap (λ (x : Contract). x.service) c.terms_of-terms.ensures))
     ∙ ap (λ (x : Held). checked_contract x contract.name c.terms_of-terms.result.service) c.self.view_is
     ∙ sym c.in_ok-check.ensures.is in
+    let banded : IsBanded contract.service = subst IsBanded (ap (λ (x : Contract). x.service) c.terms_of-terms.ensures) c.read_band.ensures in
     let few : length h.contracts < 4096 = subst (λ (x : Held). length x.contracts < 4096) (sym c.self.view_is) c.in_ok-check.ensures.few in
     let distinct : IsDistinct same_name (map (λ x. x.name) (h.contracts ++ contract ∷ [])) =
     subst (IsDistinct same_name) (sym (names_keys entries) ∙ ap (map (λ (x : Contract). x.name)) more) c.enter.ensures.unique in
-    subst (λ (l : List Contract). IsHeld (record h { contracts = l })) (sym more) (contract_kept h contract c.in_ok-check.field-0 c.self.invariant passes few distinct)
+    subst (λ (l : List Contract). IsHeld (record h { contracts = l })) (sym more) (contract_kept h contract c.in_ok-check.field-0 c.self.invariant passes banded few distinct)

@@ -2,7 +2,7 @@ use Rattle.std.proofs.Common.{◌≡◌, sym, subst, ◌∙◌, Some}
 use Rattle.gd_contracts.specs.Held.{Held, contract_named}
 use Rattle.gd_contracts.specs.Classes.{HasClass}
 use Rattle.gd_contracts.specs.Inside.{held_of}
-use Rattle.gd_contracts.proofs.Named.{found_routed}
+use Rattle.gd_contracts.proofs.Named.{found_served}
 use Rattle.gd_contracts.proofs.Classed.{class_is, told_is}
 use Rattle.gd_contracts.proofs.contracts.Contracts.class_of.Goals as goal
 
@@ -10,7 +10,7 @@ pub class_under-requires-clause-routed : goal.class_under-requires-clause-routed
 class_under-requires-clause-routed c =
     let h = held_of c.self.inside in
     let found = subst (λ (x : Held). contract_named x.contracts c.args.contract ≡ Some c.in-Some.agreed) (sym c.self.view_is) (sym c.contract.ensures ∙ c.in-Some.is) in
-    found_routed h.pipeline h.contracts c.args.contract c.in-Some.agreed c.self.invariant.routed found
+    found_served h.pipeline h.contracts c.args.contract c.in-Some.agreed c.self.invariant.served found
 
 pub returns-clause-classed : goal.returns-clause-classed
 returns-clause-classed c =

@@ -10,7 +10,7 @@ use Rattle.gd_contracts.proofs.contracts.Contracts.new.Goals as goal
 -- without contracts only the pipeline is to be known
 none_held : (p : Pipeline) → IsSystem p → IsHeld (record { pipeline = p; contracts = [] })
 unfolding IsDistinct
-none_held p s = record { system = s; few = omega arith; distinct = search rules; routed = search rules }
+none_held p s = record { system = s; few = omega arith; distinct = search rules; served = search rules }
 
 pub invariant_of-result : goal.invariant_of-result
 invariant_of-result c =

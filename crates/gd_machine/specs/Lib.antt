@@ -1,0 +1,8 @@
+pub mod Day
+pub mod History
+pub mod Asked
+pub mod Same
+pub mod Machine
+pub mod Headline
+pub mod Known
+pub mod Names

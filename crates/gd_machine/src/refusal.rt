@@ -1,0 +1,97 @@
+//! Why a book refuses.
+
+ghost use Rattle.std.specs.Prelude.{◌≡◌, Some};
+ghost use Rattle.gd_machine.specs.Names.{refusal_name};
+ghost use Rattle.gd_machine.specs.declared.refusal.Refusal.TheVariants.{OutOfMemory};
+
+use gd_certificate::CutFault;
+use gd_system::RouteFault;
+use gd_units::Round;
+use std::alloc::AllocError;
+use std::fmt;
+
+/// Why an event is refused: the first reason in the order of that kind of event. It is printed by its name, and the fault
+/// of a route by its own.
+#[derive(Clone, Copy, Debug, PartialEq, Eq, Drop)]
+pub enum Refusal {
+    /// Every cycle's received time lies before the stamp.
+    DayClosed,
+    /// There is no contract of this name.
+    UnknownContract,
+    /// The party is not the contract's shipper.
+    NotShipper,
+    /// No route leads from the origin to the destination. The reason is never `RouteFault::OutOfMemory`.
+    Route(RouteFault),
+    /// The contract's lines would be nominated more than its quantity.
+    OverContract,
+    /// The 20,001st line.
+    TooManyLines,
+    /// The history has 1,000,000 events.
+    TooManyEvents,
+    /// All five cycles are over.
+    AllSettled,
+    /// The cycle is frozen.
+    Frozen,
+    /// There is no such line, or none of its nominations is for this cycle or a former one.
+    UnknownLine,
+    /// The party is not the operator of that end.
+    NotOperator,
+    /// No element has this number.
+    UnknownElement,
+    /// A pool has no capacity.
+    IsPool,
+    /// The stamp lies before the cycle's confirmation time.
+    TooEarly,
+    /// The cycle is not frozen.
+    NotFrozen,
+    /// The round is not the current one, which is told.
+    StaleRound(Round),
+    /// The certificate is not for the frozen question.
+    OtherQuestion,
+    /// The set does not show that no schedule is allowed.
+    NoCutProof(CutFault),
+    /// No cut was declared in this cycle.
+    NoCut,
+    /// Memory was refused.
+    OutOfMemory,
+    /// Somebody else posted on the board for this cycle.
+    BoardTaken,
+}
+
+impl From<AllocError> for Refusal {
+    ghost from_gives = { λ _ r. r ≡ OutOfMemory };
+
+    fn from(_e: AllocError) -> Refusal {
+        Refusal::OutOfMemory
+    }
+}
+
+impl fmt::Display for Refusal {
+    ghost output = { λ r. Some (refusal_name r) };
+
+    fn fmt<W: fmt::Write>(&self, f: &mut fmt::Formatter<W>) -> fmt::Result {
+        match self {
+            Refusal::DayClosed => f.write_str("DayClosed"),
+            Refusal::UnknownContract => f.write_str("UnknownContract"),
+            Refusal::NotShipper => f.write_str("NotShipper"),
+            Refusal::Route(fault) => write!(f, "{fault}"),
+            Refusal::OverContract => f.write_str("OverContract"),
+            Refusal::TooManyLines => f.write_str("TooManyLines"),
+            Refusal::TooManyEvents => f.write_str("TooManyEvents"),
+            Refusal::AllSettled => f.write_str("AllSettled"),
+            Refusal::Frozen => f.write_str("Frozen"),
+            Refusal::UnknownLine => f.write_str("UnknownLine"),
+            Refusal::NotOperator => f.write_str("NotOperator"),
+            Refusal::UnknownElement => f.write_str("UnknownElement"),
+            Refusal::IsPool => f.write_str("IsPool"),
+            Refusal::TooEarly => f.write_str("TooEarly"),
+            Refusal::NotFrozen => f.write_str("NotFrozen"),
+            Refusal::StaleRound(_) => f.write_str("StaleRound"),
+            Refusal::OtherQuestion => f.write_str("OtherQuestion"),
+            Refusal::NoCutProof(_) => f.write_str("NoCutProof"),
+            Refusal::NoCut => f.write_str("NoCut"),
+            Refusal::OutOfMemory => f.write_str("OutOfMemory"),
+            Refusal::BoardTaken => f.write_str("BoardTaken"),
+        }
+    }
+}
