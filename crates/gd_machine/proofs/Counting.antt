@@ -20,7 +20,7 @@ use Rattle.gd_machine.proofs.Nominated.{nominations_more, is_nominated, Rising, 
 use Rattle.gd_machine.proofs.Prefixes.{after_each}
 use Rattle.gd_lines.specs.Numbered.{nomination}
 
-count_more : {X : Type 0} (f : X → Bool) (xs : List X) (x : X) → count_by f (xs ++ x ∷ []) ≡ count_by f xs + cond (f x) 1 0
+pub count_more : {X : Type 0} (f : X → Bool) (xs : List X) (x : X) → count_by f (xs ++ x ∷ []) ≡ count_by f xs + cond (f x) 1 0
 count_more f xs x = sum_by-append (λ y. cond (f y) 1 0) xs (x ∷ []) ∙ ap (λ n. count_by f xs + n) (alone (cond (f x) 1 0))
   where
     alone : (n : ℕ) → 0 + n ≡ n

@@ -131,7 +131,7 @@ appended P [] s all one (suc c) = all (suc c)
 appended P (t ∷ ss) s all one zero = all zero
 appended P (t ∷ ss) s all one (suc c) = appended P ss s (λ c. all (suc c)) one c
 
-last_appended : (ss : List (List ℕ)) (s : List ℕ) (c : ℕ) → c ≡ length ss → get_or (ss ++ s ∷ []) c [] ≡ s
+pub last_appended : (ss : List (List ℕ)) (s : List ℕ) (c : ℕ) → c ≡ length ss → get_or (ss ++ s ∷ []) c [] ≡ s
 last_appended [] s zero e = refl
 last_appended [] s (suc c) e = absurd (omega (arith, e))
 last_appended (t ∷ ss) s zero e = absurd (omega (arith, e))

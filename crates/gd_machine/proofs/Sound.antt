@@ -11,6 +11,7 @@ use Rattle.gd_machine.specs.Asked.{key_of, nominated_of, former_of, elapsed_of, 
 use Rattle.gd_machine.specs.Known.{IsSound}
 use Rattle.gd_machine.specs.Machine.{IsLegal, AllPass}
 use Rattle.gd_machine.proofs.Nominated.{prefix_routed, prefix_classed, prefix_in_day, prefix_rising}
+use Rattle.gd_machine.proofs.Staying.{frozen_past}
 use Rattle.gd_machine.proofs.Flowing.{Flows, prefix_flows, covers}
 use Rattle.std.proofs.lemmas.List.{take_all}
 
@@ -59,6 +60,7 @@ module _ (day : Day) (is_day : IsDay day) where
         classed = prefix_classed day is_day h legal n;
         rising = prefix_rising day h legal n;
         in_day = prefix_in_day day h legal n;
+        past = frozen_past day is_day h legal n;
         flowing = λ line c low high. flows.flowing line c low high;
         covered = former_covers (take n h) flows;
         bounded = floor_below (take n h) flows;

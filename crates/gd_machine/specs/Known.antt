@@ -1,5 +1,5 @@
 -- What holds of every legal history, so that its question can be asked: the code of a book rests on it.
-use Rattle.std.specs.Prelude.{◌≡◌, ℕ, ◌<◌, ◌≤◌, All, Some, Ok}
+use Rattle.std.specs.Prelude.{◌≡◌, ℕ, true, ◌<◌, ◌≤◌, All, Some, Ok}
 use Rattle.gd_rules.specs.GasDay as gas_day
 use Rattle.gd_rules.specs.Bounds as bounds
 use Rattle.gd_rules.specs.Lines.{Key}
@@ -8,7 +8,7 @@ use Rattle.gd_system.specs.Route.{ends_of}
 use Rattle.gd_system.specs.declared.part.Ends.{Ends}
 use Rattle.gd_contracts.specs.Classes.{class_told}
 use Rattle.gd_machine.specs.Day.{Day, cycle_at, length_of}
-use Rattle.gd_machine.specs.History.{History, cycle_of, last_stamp, scheduled}
+use Rattle.gd_machine.specs.History.{History, cycle_of, is_frozen, last_stamp, scheduled}
 use Rattle.gd_machine.specs.Asked.{nominations, class_in, elapsed_of, former_of, floor_of, confirmed_of}
 
 -- A route leads from the line's origin to its destination.
@@ -30,6 +30,8 @@ pub record IsSound (day : Day) (h : History) : Type 0 where
   -- and for a cycle that is not after that of a nomination made now
   pub rising : (stamp cycle : ℕ) → last_stamp h ≤ stamp → cycle_at day stamp ≡ Some cycle → All (λ n. n.cycle ≤ cycle) (nominations day h)
   pub in_day : All (λ n. (1 ≤ n.cycle) × (n.cycle ≤ 5)) (nominations day h)
+  -- while a cycle is frozen every nomination made now is for a later one
+  pub past : is_frozen h ≡ true → (stamp cycle : ℕ) → last_stamp h ≤ stamp → cycle_at day stamp ≡ Some cycle → cycle_of h < cycle
   -- no more has flowed of a line than its schedule in effect
   pub flowing : (line cycle : ℕ) → 1 ≤ cycle → cycle < cycle_of h → flowed_until day h line cycle ≤ scheduled h line cycle
   -- nor than what was scheduled before, and so its floor is at most what is confirmed

@@ -1,0 +1,11 @@
+mod Committed
+mod Carried
+mod Sameness
+mod More
+mod Quiet
+mod Over
+mod Nominating
+mod Own
+mod Carry
+mod Asking
+mod Freezing

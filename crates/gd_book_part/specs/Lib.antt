@@ -1,0 +1,4 @@
+pub mod Names
+pub mod Confirmed
+pub mod Kept
+pub mod Asking
