@@ -32,7 +32,7 @@ fn marks_from(
     ensures size { IfOk result (λ part. length part.items ≡ count) }
     ensures entries { IfOk result
         (λ part. (k : ℕ) → k < count
-            → get_or part.items k false ≡ get_or marks.now (first + k) false) }
+        → get_or part.items k false ≡ get_or marks.now (first + k) false) }
 {
     let mut part = Vec::new(alloc);
     for k in 0..count {
@@ -51,7 +51,7 @@ pub(crate) fn cut_of(
     ensures shaped { IfOk result (IsShaped network.now.question.pipeline) }
     ensures side { IfOk result
         (λ cut. IsSideOf network.now.question.asked (λ v. get_or marks.now v false)
-            (side_of network.now.question.pipeline cut)) }
+        (side_of network.now.question.pipeline cut)) }
 {
     network.known();
     elements_bring();

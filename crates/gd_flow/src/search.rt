@@ -116,7 +116,7 @@ impl Search {
         ensures first { IfOk result (λ s. (find_at s 0).node ≡ from) }
         ensures tried { IfOk result
             (λ s. get_or s.marks.items to false ≡ false
-                → AreTried network.now.arcs flow.now s (length s.finds.items)) }
+            → AreTried network.now.arcs flow.now s (length s.finds.items)) }
     {
         let mut search = Search::start(alloc, network.node_count(), from)?;
         let mut at = 0;

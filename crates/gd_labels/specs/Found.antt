@@ -14,7 +14,7 @@ abbrev pub IsStill : {V : Type 0} → Scale V → List ℕ → List ℕ → List
 IsStill s from to gain labels =
     (i : ℕ) → i < length from
     → AtMost s (s.plus (label_at s labels (node_at from i)) (get_or gain i s.none))
-        (label_at s labels (node_at to i))
+    (label_at s labels (node_at to i))
 
 -- There is a label for each of n nodes, at most what n links can gain, and no link would raise one.
 pub record AreLabels {V : Type 0} (s : Scale V) (within : ℤ → V → Bool) (n : ℕ) (from to : List ℕ)

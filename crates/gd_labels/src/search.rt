@@ -108,7 +108,7 @@ impl<C: Cost> Search<C> {
         ensures search { IfOk result (λ _. IsSearch C.scale C.within C.meaning links.now self.new) }
         ensures rises { IfOk result
             (λ _. room C.size C.rank C.meaning (length self.old.current.items) self.new
-                < room C.size C.rank C.meaning (length self.old.current.items) self.old) }
+            < room C.size C.rank C.meaning (length self.old.current.items) self.old) }
         ensures nodes { length self.new.current.items ≡ length self.old.current.items }
     {
         let start = links.from[i];
