@@ -9,5 +9,7 @@ use Rattle.gd_flow.specs.declared.mending.Repaired.TheVariants.{Feasible, Imposs
 
 -- A flow of this network that balances within its bounds, or a set out of which more must flow than can.
 abbrev pub Repairs : Posed → Net → Repaired → Type 0
-Repairs q n (Feasible f) = (f.question ≡ q) × (f.arcs ≡ n) × (length f.flow ≡ length n) × IsCirculation n f.flow × IsWithin n f.flow
+Repairs q n (Feasible f) =
+    (f.question ≡ q) × (f.arcs ≡ n) × (length f.flow ≡ length n) × IsCirculation n f.flow
+    × IsWithin n f.flow
 Repairs q n (Impossible cut) = IsShaped q.pipeline cut × Cuts q cut

@@ -22,13 +22,15 @@ pub record IsLed (n : Net) (flow : List ℤ) (s : Search) (k : ℕ) : Type 0 whe
   pub ends : head_of n (find_at s k).step ≡ (find_at s k).node
   pub has_room : pos 0 <ℤ room n flow (find_at s k).step
 
--- The marked nodes are those found, each once, and all but the first were led to. As many nodes are left as are not found.
+-- The marked nodes are those found, each once, and all but the first were led to. As many nodes are left as are not
+-- found.
 pub record IsSearch (l : Laid) (flow : List ℤ) (s : Search) : Type 0 where
   pub size : length s.marks.items ≡ length l.question.asked.elements + 1
   pub counted : length s.finds.items + count_by not s.marks.items ≡ length l.question.asked.elements + 1
   pub begun : 0 < length s.finds.items
   pub marked : (k : ℕ) → k < length s.finds.items → get_or s.marks.items (find_at s k).node false ≡ true
-  pub found : (v : ℕ) → get_or s.marks.items v false ≡ true → (k : ℕ) × (k < length s.finds.items) × ((find_at s k).node ≡ v)
+  pub found : (v : ℕ) → get_or s.marks.items v false ≡ true → (k : ℕ) × (k < length s.finds.items)
+      × ((find_at s k).node ≡ v)
   pub once : (j k : ℕ) → j < k → k < length s.finds.items → (find_at s j).node ≢ (find_at s k).node
   pub led : (k : ℕ) → 0 < k → k < length s.finds.items → IsLed l.arcs flow s k
 
@@ -40,11 +42,14 @@ pub record Grows (old new : Search) : Type 0 where
 
 -- A step from the node that has room leads to a marked node.
 abbrev pub IsTried : Net → List ℤ → List Bool → ℕ → Step → Type 0
-IsTried n flow marks node step = tail_of n step ≡ node → pos 0 <ℤ room n flow step → get_or marks (head_of n step) false ≡ true
+IsTried n flow marks node step =
+    tail_of n step ≡ node → pos 0 <ℤ room n flow step → get_or marks (head_of n step) false ≡ true
 
 -- Each step from one of the first k nodes found that has room leads to a marked node.
 abbrev pub AreTried : Net → List ℤ → Search → ℕ → Type 0
-AreTried n flow s k = (j : ℕ) (step : Step) → j < k → step.arc < length n → IsTried n flow s.marks.items (find_at s j).node step
+AreTried n flow s k =
+    (j : ℕ) (step : Step) → j < k → step.arc < length n
+    → IsTried n flow s.marks.items (find_at s j).node step
 
 -- A closed walk with room for a dekatherm, no step of which comes twice and one of which is this one.
 pub record Closes (n : Net) (flow : List ℤ) (step : Step) (walk : List Step) : Type 0 where

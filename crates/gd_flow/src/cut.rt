@@ -11,7 +11,8 @@ use std::alloc::{AllocError, Global};
 
 /// Each element is a segment, a point or a pool, since the last one has a name.
 fn elements_are_named(question: &Question)
-    ensures { length question.now.asked.elements ≤ length question.now.pipeline.tree + length question.now.pipeline.points + length question.now.pipeline.pools }
+    ensures { length question.now.asked.elements
+        ≤ length question.now.pipeline.tree + length question.now.pipeline.points + length question.now.pipeline.pools }
 {
     question.system().known();
     let count = question.element_count();
@@ -29,7 +30,9 @@ fn marks_from(
 ) -> Result<Vec<bool>, AllocError>
     requires few { first + count < 2 ^ 32 }
     ensures size { IfOk result (λ part. length part.items ≡ count) }
-    ensures entries { IfOk result (λ part. (k : ℕ) → k < count → get_or part.items k false ≡ get_or marks.now (first + k) false) }
+    ensures entries { IfOk result
+        (λ part. (k : ℕ) → k < count
+        → get_or part.items k false ≡ get_or marks.now (first + k) false) }
 {
     let mut part = Vec::new(alloc);
     for k in 0..count {
@@ -46,7 +49,9 @@ pub(crate) fn cut_of(
     marks: &[bool],
 ) -> Result<Cut, AllocError>
     ensures shaped { IfOk result (IsShaped network.now.question.pipeline) }
-    ensures side { IfOk result (λ cut. IsSideOf network.now.question.asked (λ v. get_or marks.now v false) (side_of network.now.question.pipeline cut)) }
+    ensures side { IfOk result
+        (λ cut. IsSideOf network.now.question.asked (λ v. get_or marks.now v false)
+        (side_of network.now.question.pipeline cut)) }
 {
     network.known();
     elements_bring();

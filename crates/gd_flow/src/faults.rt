@@ -20,7 +20,8 @@ pub(crate) fn fault_of(network: &Network<'_>, flow: &[i64], number: usize) -> Op
     requires arc { number < length network.now.arcs }
     ensures { MatchOption result
         (Holds network.now.arcs flow.now number)
-        (λ fault. (fault.step.arc ≡ number) × Mends network.now.arcs flow.now fault.step × (fault.amount ≡ pos (amiss_at network.now.arcs flow.now number))) }
+        (λ fault. (fault.step.arc ≡ number) × Mends network.now.arcs flow.now fault.step
+        × (fault.amount ≡ pos (amiss_at network.now.arcs flow.now number))) }
 {
     network.known();
     let arc = network.arc(number);

@@ -39,7 +39,8 @@ impl<'q> Feasible<'q> {
         Feasible { network, flow }
     }
 
-    /// What holds of every feasible flow: there is an amount for each arc of the question's network, it balances, and each lies within its arc's bounds.
+    /// What holds of every feasible flow: there is an amount for each arc of the question's network, it balances, and
+    /// each lies within its arc's bounds.
     pub fn known(&self)
         ensures network { IsNetwork self.now.question.asked self.now.arcs }
         ensures size { length self.now.flow ≡ length self.now.arcs }

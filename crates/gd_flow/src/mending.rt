@@ -106,7 +106,8 @@ fn mend_all(
     Ok(None)
 }
 
-/// A flow that balances within the bounds of all arcs, found from the network's first flow, or a cut that shows that there is none (Hoffman). The only error is want of memory.
+/// A flow that balances within the bounds of all arcs, found from the network's first flow, or a cut that shows that
+/// there is none (Hoffman). The only error is want of memory.
 pub fn repair<'q>(alloc: Global, network: Network<'q>) -> Result<Repaired<'q>, AllocError>
     ensures { IfOk result (Repairs network.entry.question network.entry.arcs) }
 {

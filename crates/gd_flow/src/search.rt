@@ -89,7 +89,8 @@ impl Search {
         requires at { at < length self.old.finds.items }
         ensures search { OnOk result (IsSearch network.now flow.now self.new) }
         ensures grows { OnOk result (Grows self.old self.new) }
-        ensures tried { OnOk result ((step : Step) → step.arc < length network.now.arcs → IsTried network.now.arcs flow.now self.new.marks.items (find_at self.old at).node step) }
+        ensures tried { OnOk result ((step : Step) → step.arc < length network.now.arcs
+            → IsTried network.now.arcs flow.now self.new.marks.items (find_at self.old at).node step) }
     {
         let node = self.finds[at].node;
         for number in network.links(node) {
@@ -113,7 +114,9 @@ impl Search {
         requires to { to < length network.now.question.asked.elements + 1 }
         ensures search { IfOk result (IsSearch network.now flow.now) }
         ensures first { IfOk result (λ s. (find_at s 0).node ≡ from) }
-        ensures tried { IfOk result (λ s. get_or s.marks.items to false ≡ false → AreTried network.now.arcs flow.now s (length s.finds.items)) }
+        ensures tried { IfOk result
+            (λ s. get_or s.marks.items to false ≡ false
+            → AreTried network.now.arcs flow.now s (length s.finds.items)) }
     {
         let mut search = Search::start(alloc, network.node_count(), from)?;
         let mut at = 0;

@@ -6,13 +6,18 @@ use Rattle.gd_rules.specs.Scale.{Scale}
 abbrev pub node_at : List ℕ → ℕ → ℕ
 node_at nodes i = get_or nodes i 0
 
--- The three lists are of one length, each link joins two of n nodes, and each gain is at most 16 in size.
-pub record AreLinks {V : Type 0} (s : Scale V) (within : ℤ → V → Bool) (n : ℕ) (from to : List ℕ) (gain : List V) : Type 0 where
+-- The greatest size of what a link gains.
+abbrev pub most_gain : ℕ
+most_gain = 16
+
+-- The three lists are of one length, each link joins two of n nodes, and no gain is too large.
+pub record AreLinks {V : Type 0} (s : Scale V) (within : ℤ → V → Bool) (n : ℕ) (from to : List ℕ)
+    (gain : List V) : Type 0 where
   pub ends : length to ≡ length from
   pub gains : length gain ≡ length from
   pub begins_in : (i : ℕ) → i < length from → node_at from i < n
   pub leads_in : (i : ℕ) → i < length from → node_at to i < n
-  pub small : (i : ℕ) → i < length from → IsTrue (within (pos 16) (get_or gain i s.none))
+  pub small : (i : ℕ) → i < length from → IsTrue (within (pos most_gain) (get_or gain i s.none))
 
 -- A walk from a to b, its links listed from the last to the first.
 abbrev pub Trail : List ℕ → List ℕ → ℕ → List ℕ → ℕ → Type 0

@@ -47,8 +47,10 @@ pub fn potentials<C: Cost>(
     nodes: usize,
 ) -> Result<Found<C>, AllocError>
     requires small { nodes < 2 ^ 32 }
-    requires links { AreLinks C.scale C.within nodes links.now.from.items links.now.to.items (map C.meaning links.now.gain.items) }
-    ensures { IfOk result (IsFound C.scale C.within C.meaning nodes links.now.from.items links.now.to.items (map C.meaning links.now.gain.items)) }
+    requires links { AreLinks C.scale C.within nodes
+        links.now.from.items links.now.to.items (map C.meaning links.now.gain.items) }
+    ensures { IfOk result (IsFound C.scale C.within C.meaning nodes
+        links.now.from.items links.now.to.items (map C.meaning links.now.gain.items)) }
 {
     let mut search = Search::start(alloc, nodes)?;
     match search.settle(alloc, links)? {

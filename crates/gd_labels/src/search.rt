@@ -106,7 +106,9 @@ impl<C: Cost> Search<C> {
         requires improves { IsTrue (improves C.scale C.meaning links.now self.old i) }
         requires avoids { Avoids links.now self.old i }
         ensures search { IfOk result (λ _. IsSearch C.scale C.within C.meaning links.now self.new) }
-        ensures rises { IfOk result (λ _. room C.size C.rank C.meaning (length self.old.current.items) self.new < room C.size C.rank C.meaning (length self.old.current.items) self.old) }
+        ensures rises { IfOk result
+            (λ _. room C.size C.rank C.meaning (length self.old.current.items) self.new
+            < room C.size C.rank C.meaning (length self.old.current.items) self.old) }
         ensures nodes { length self.new.current.items ≡ length self.old.current.items }
     {
         let start = links.from[i];

@@ -20,6 +20,10 @@ from_is n k a e = ap (λ (b : Arc). b.from) e
 pub to_is : (n : Net) (k : ℕ) (a : Arc) → a ≡ arc_at n k → a.to ≡ to_at n k
 to_is n k a e = ap (λ (b : Arc). b.to) e
 
+-- an end of an arc that was read is a node
+pub in_nodes : (n : Net) (k count : ℕ) (end_at : Net → ℕ → ℕ) (node : ℕ) → node ≡ end_at n k → {nodes : ℕ} → count ≡ nodes → end_at n k < nodes → node < count
+in_nodes n k count end_at node is same h = subst (λ m. m < count) (sym is) (subst (λ m. end_at n k < m) (sym same) h)
+
 module _ {C V : Type 0} (s : Scale V) (within : ℤ → V → Bool) (meaning : C → V) (items : List C) where
   -- the potential of a node, as it was read
   pub read_potential : (u v : ℕ) (x : C) → u ≡ v → v < length items → x ≡ get_or items u x → meaning x ≡ potential s (map meaning items) v

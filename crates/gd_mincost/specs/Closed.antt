@@ -1,19 +1,20 @@
 -- Walks of links as steps, and labels that show that none gains.
-use Rattle.std.specs.Prelude.{◌≡◌, ℕ, ◌^◌, ◌<◌, ℤ, pos, Bool, List, length, map, reverse, IsTrue}
+use Rattle.std.specs.Prelude.{◌≡◌, ℕ, ◌<◌, ℤ, pos, Bool, List, length, map, reverse, IsTrue}
 use Rattle.gd_rules.specs.Scale.{Scale}
 use Rattle.gd_network.specs.Arcs.{Net}
 use Rattle.gd_network.specs.Potential.{IsStill}
 use Rattle.gd_walks.specs.declared.Step.{Step}
 use Rattle.gd_mincost.specs.Gains.{gain_at}
 use Rattle.gd_mincost.specs.Residual.{step_at}
-use Rattle.gd_mincost.specs.Settled.{potential}
+use Rattle.gd_mincost.specs.Settled.{potential, most_potential}
 
 -- The steps of links that are listed from the last to the first.
 abbrev pub steps_along : List Step → List ℕ → List Step
 steps_along steps walk = reverse (map (step_at steps) walk)
 
--- There is a label for each node, at most 2^39 in size, and no step that has room gains.
-pub record AreShown {V : Type 0} (s : Scale V) (within : ℤ → V → Bool) (nodes : ℕ) (n : Net) (flow : List ℤ) (gains labels : List V) : Type 0 where
+-- There is a label for each node, none of them too large, and no step that has room gains.
+pub record AreShown {V : Type 0} (s : Scale V) (within : ℤ → V → Bool) (nodes : ℕ) (n : Net)
+    (flow : List ℤ) (gains labels : List V) : Type 0 where
   pub count : length labels ≡ nodes
-  pub small : (node : ℕ) → node < nodes → IsTrue (within (pos (2 ^ 39)) (potential s labels node))
+  pub small : (node : ℕ) → node < nodes → IsTrue (within (pos most_potential) (potential s labels node))
   pub still : IsStill s n flow (gain_at s gains) (potential s labels)

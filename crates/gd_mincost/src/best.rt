@@ -1,7 +1,7 @@
 //! A feasible flow made best.
 
 ghost use Rattle.std.specs.Prelude.{◌≡◌, ◌+◌, length, map, IfOk, OnOk};
-ghost use Rattle.gd_mincost.specs.Settled.{IsSettled};
+ghost use Rattle.gd_mincost.specs.Settled.{IsSettled, worth};
 ghost use Rattle.gd_mincost.specs.Gains.{AreGains};
 ghost use Rattle.gd_flow.specs.Feasible.{IsFeasible};
 ghost use Rattle.gd_mincost.specs.Closed.{AreShown};
@@ -74,7 +74,9 @@ fn rise<C: Cost>(
     requires gains { AreGains C.scale C.within (length network.now.arcs) (map C.meaning gains.now) }
     requires feasible { IsFeasible network.now.arcs flow.old }
     ensures feasible { OnOk result (IsFeasible network.now.arcs flow.new) }
-    ensures shown { IfOk result (λ labels. AreShown C.scale C.within (length network.now.question.asked.elements + 1) network.now.arcs flow.new (map C.meaning gains.now) (map C.meaning labels.items)) }
+    ensures shown { IfOk result
+        (λ labels. AreShown C.scale C.within (length network.now.question.asked.elements + 1)
+        network.now.arcs flow.new (map C.meaning gains.now) (map C.meaning labels.items)) }
 {
     network.known();
     let mut part = Part::first();
@@ -100,7 +102,9 @@ pub fn settle<'q, C: ByClass>(
 ) -> Result<Best<'q, C>, AllocError>
     ensures question { IfOk result (λ best. best.question ≡ feasible.entry.question) }
     ensures arcs { IfOk result (λ best. best.arcs ≡ feasible.entry.arcs) }
-    ensures settled { IfOk result (λ best. IsSettled C.scale C.within (λ class tenth. C.meaning (C.at class tenth)) best.question.asked best.arcs best.flow (map C.meaning best.potentials)) }
+    ensures settled { IfOk result
+        (λ best. IsSettled C.scale C.within (worth C.meaning C.at)
+        best.question.asked best.arcs best.flow (map C.meaning best.potentials)) }
 {
     settle_from(alloc, feasible, Vec::new(alloc))
 }
@@ -113,7 +117,9 @@ pub fn settle_from<'q, C: ByClass>(
 ) -> Result<Best<'q, C>, AllocError>
     ensures question { IfOk result (λ best. best.question ≡ feasible.entry.question) }
     ensures arcs { IfOk result (λ best. best.arcs ≡ feasible.entry.arcs) }
-    ensures settled { IfOk result (λ best. IsSettled C.scale C.within (λ class tenth. C.meaning (C.at class tenth)) best.question.asked best.arcs best.flow (map C.meaning best.potentials)) }
+    ensures settled { IfOk result
+        (λ best. IsSettled C.scale C.within (worth C.meaning C.at)
+        best.question.asked best.arcs best.flow (map C.meaning best.potentials)) }
 {
     feasible.known();
     let (network, flow) = feasible.into_parts();

@@ -4,6 +4,7 @@ ghost use Rattle.std.specs.Prelude.{◌≡◌, ◌<◌, pos, ◌<ℤ◌, length,
 ghost use Rattle.gd_mincost.specs.Part.{IsPart, IsLast, after};
 
 use gd_network::Network;
+use gd_units::Class;
 
 /// The greatest room with which a search begins: no tenth of a line carries twice as much.
 const GREATEST: u32 = 1 << 26;
@@ -41,7 +42,7 @@ impl Part {
                 class: self.class,
                 least: self.least / 2,
             })
-        } else if self.class < 8 {
+        } else if self.class < Class::MAX {
             Some(Part {
                 class: self.class + 1,
                 least: GREATEST,

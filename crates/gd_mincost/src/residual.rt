@@ -100,7 +100,8 @@ impl<C: Cost> Residual<C> {
         requires sound { IsSound C.scale C.meaning network.now.arcs flow.now (map C.meaning gains.now) self.old }
         ensures sound { OnOk result (IsSound C.scale C.meaning network.now.arcs flow.now (map C.meaning gains.now) self.new) }
         ensures kept { OnOk result (Keeps self.old.steps.items self.new.steps.items) }
-        ensures added { OnOk result (IsLast part → (step : Step) → step.arc ≡ arc → pos 0 <ℤ room network.now.arcs flow.now step → Holds self.new.steps.items step) }
+        ensures added { OnOk result (IsLast part → (step : Step) → step.arc ≡ arc
+            → pos 0 <ℤ room network.now.arcs flow.now step → Holds self.new.steps.items step) }
     {
         let least = part.least_room(network, arc);
         self.add(network, gains, flow, Step { arc, back: false }, least)?;
@@ -147,7 +148,9 @@ impl<C: Cost> Residual<C> {
         requires near { IsNear network.now.arcs flow.now }
         requires part { IsPart part }
         ensures sound { IfOk result (IsSound C.scale C.meaning network.now.arcs flow.now (map C.meaning gains.now)) }
-        ensures whole { IfOk result (λ residual. IsLast part → IsWhole network.now.arcs flow.now (length network.now.arcs) residual.steps.items) }
+        ensures whole { IfOk result
+            (λ residual. IsLast part
+            → IsWhole network.now.arcs flow.now (length network.now.arcs) residual.steps.items) }
     {
         let mut residual = Residual::none(alloc);
         for arc in 0..network.arc_count() {

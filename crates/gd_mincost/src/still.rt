@@ -2,8 +2,10 @@
 
 ghost use Rattle.std.specs.Prelude.{◌≡◌, ◌+◌, ◌<◌, ◌^◌, pos, true, false, length, map, IsTrue};
 ghost use Rattle.gd_rules.specs.Scale.{AtMost};
+ghost use Rattle.gd_mincost.specs.Settled.{potential, worth};
 ghost use Rattle.gd_mincost.specs.Stillness.{AreSmall, IsStillAlong, IsStillBack, ShowsBest};
 
+use crate::MAX_POTENTIAL_WORD;
 use crate::gains::gain_of;
 use gd_cost::{ByClass, Cost};
 use gd_network::Network;
@@ -17,6 +19,22 @@ fn improves<C: Cost>(start: C, gain: C, end: C) -> bool
     start.add(gain).cmp(end).is_gt()
 }
 
+/// Whether a step from one node to another that gains so much would raise no potential.
+fn raises_none<C: Cost>(potentials: &[C], from: usize, to: usize, gain: C) -> bool
+    requires from { from < length potentials.now }
+    requires to { to < length potentials.now }
+    requires small { AreSmall C.scale C.within (map C.meaning potentials.now) }
+    requires gain { IsTrue (C.within (pos (2 ^ 100)) (C.meaning gain)) }
+    ensures { result ≡ true → AtMost C.scale
+        (C.scale.plus (potential C.scale (map C.meaning potentials.now) from) (C.meaning gain))
+        (potential C.scale (map C.meaning potentials.now) to) }
+{
+    if improves(potentials[from], gain, potentials[to]) {
+        return false;
+    }
+    true
+}
+
 /// Whether an arc gains nothing by carrying more, or can't.
 fn is_still_along<C: ByClass>(
     network: &Network<'_>,
@@ -28,7 +46,9 @@ fn is_still_along<C: ByClass>(
     requires size { length flow.now ≡ length network.now.arcs }
     requires nodes { length potentials.now ≡ length network.now.question.asked.elements + 1 }
     requires small { AreSmall C.scale C.within (map C.meaning potentials.now) }
-    ensures { result ≡ true → IsStillAlong C.scale (λ class tenth. C.meaning (C.at class tenth)) network.now.question.asked network.now.arcs flow.now (map C.meaning potentials.now) number }
+    ensures { result ≡ true
+        → IsStillAlong C.scale (worth C.meaning C.at)
+        network.now.question.asked network.now.arcs flow.now (map C.meaning potentials.now) number }
 {
     network.known();
     let arc = network.arc(number);
@@ -36,10 +56,7 @@ fn is_still_along<C: ByClass>(
         return true;
     }
     let gain = gain_of::<C>(network, number);
-    if improves(potentials[arc.from], gain, potentials[arc.to]) {
-        return false;
-    }
-    true
+    raises_none(potentials, arc.from, arc.to, gain)
 }
 
 /// Whether an arc gains nothing by carrying less, or can't.
@@ -53,7 +70,9 @@ fn is_still_back<C: ByClass>(
     requires size { length flow.now ≡ length network.now.arcs }
     requires nodes { length potentials.now ≡ length network.now.question.asked.elements + 1 }
     requires small { AreSmall C.scale C.within (map C.meaning potentials.now) }
-    ensures { result ≡ true → IsStillBack C.scale (λ class tenth. C.meaning (C.at class tenth)) network.now.question.asked network.now.arcs flow.now (map C.meaning potentials.now) number }
+    ensures { result ≡ true
+        → IsStillBack C.scale (worth C.meaning C.at)
+        network.now.question.asked network.now.arcs flow.now (map C.meaning potentials.now) number }
 {
     network.known();
     let arc = network.arc(number);
@@ -62,10 +81,7 @@ fn is_still_back<C: ByClass>(
     }
     let gain = gain_of::<C>(network, number);
     let turned = C::zero().sub(gain);
-    if improves(potentials[arc.to], turned, potentials[arc.from]) {
-        return false;
-    }
-    true
+    raises_none(potentials, arc.to, arc.from, turned)
 }
 
 /// Whether no step that has room gains.
@@ -73,7 +89,9 @@ fn is_still<C: ByClass>(network: &Network<'_>, flow: &[i64], potentials: &[C]) -
     requires size { length flow.now ≡ length network.now.arcs }
     requires nodes { length potentials.now ≡ length network.now.question.asked.elements + 1 }
     requires small { AreSmall C.scale C.within (map C.meaning potentials.now) }
-    ensures { result ≡ true → ShowsBest C.scale (λ class tenth. C.meaning (C.at class tenth)) network.now.question.asked network.now.arcs flow.now (map C.meaning potentials.now) }
+    ensures { result ≡ true
+        → ShowsBest C.scale (worth C.meaning C.at)
+        network.now.question.asked network.now.arcs flow.now (map C.meaning potentials.now) }
 {
     for number in 0..network.arc_count() {
         if !is_still_along(network, flow, potentials, number) {
@@ -86,27 +104,29 @@ fn is_still<C: ByClass>(network: &Network<'_>, flow: &[i64], potentials: &[C]) -
     true
 }
 
-/// Whether each potential is at most 2^39 in size.
+/// Whether no potential is too large.
 fn are_small<C: Cost>(potentials: &[C]) -> bool
     ensures { result ≡ true → AreSmall C.scale C.within (map C.meaning potentials.now) }
 {
     for potential in potentials {
-        if !potential.fits(1 << 39) {
+        if !potential.fits(MAX_POTENTIAL_WORD) {
             return false;
         }
     }
     true
 }
 
-/// Whether potentials show that a flow within its bounds is best: there is one for each node, at most 2^39 in size, and no step
-/// that has room gains.
+/// Whether potentials show that a flow within its bounds is best: there is one for each node, none of them too large,
+/// and no step that has room gains.
 ///
 /// It answers `true` only where they do. It asks for an amount for each arc.
 pub fn show_best<C: ByClass>(network: &Network<'_>, flow: &[i64], potentials: &[C]) -> bool
     requires { length flow.now ≡ length network.now.arcs }
     ensures nodes { result ≡ true → length potentials.now ≡ length network.now.question.asked.elements + 1 }
     ensures small { result ≡ true → AreSmall C.scale C.within (map C.meaning potentials.now) }
-    ensures still { result ≡ true → ShowsBest C.scale (λ class tenth. C.meaning (C.at class tenth)) network.now.question.asked network.now.arcs flow.now (map C.meaning potentials.now) }
+    ensures still { result ≡ true
+        → ShowsBest C.scale (worth C.meaning C.at)
+        network.now.question.asked network.now.arcs flow.now (map C.meaning potentials.now) }
 {
     if potentials.len() != network.node_count() {
         return false;

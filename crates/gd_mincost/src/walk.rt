@@ -42,9 +42,12 @@ pub(crate) fn push_closed<C: Cost>(
 ) -> Result<(), AllocError>
     requires feasible { IsFeasible network.now.arcs flow.old }
     requires sound { IsSound C.scale C.meaning network.now.arcs flow.old (map C.meaning gains.now) residual.now }
-    requires closed { IsGaining C.scale residual.now.links.from.items residual.now.links.to.items (map C.meaning residual.now.links.gain.items) walk.now }
+    requires closed { IsGaining C.scale residual.now.links.from.items residual.now.links.to.items
+        (map C.meaning residual.now.links.gain.items) walk.now }
     ensures feasible { OnOk result (IsFeasible network.now.arcs flow.new) }
-    ensures rises { OnOk result (IsAbove C.scale (value C.scale (map C.meaning gains.now) network.now.arcs flow.new) (value C.scale (map C.meaning gains.now) network.now.arcs flow.old)) }
+    ensures rises { OnOk result (IsAbove C.scale
+        (value C.scale (map C.meaning gains.now) network.now.arcs flow.new)
+        (value C.scale (map C.meaning gains.now) network.now.arcs flow.old)) }
 {
     network.known();
     let along = steps_along(alloc, &residual.steps, walk)?;

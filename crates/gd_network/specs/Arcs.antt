@@ -1,4 +1,5 @@
--- A question as a network: an arc for each element, and ten for each line, which lead back from its destination to its origin.
+-- A question as a network: an arc for each element, and ten for each line, which lead back from its destination to
+-- its origin.
 use Rattle.std.specs.Prelude.{◌≡◌, ℕ, ◌+◌, ◌-◌, ◌*◌, ◌<◌, ℤ, pos, List, length, get_or, min, max}
 use Rattle.gd_rules.specs.Question.{Element, Line, Question, element, line}
 use Rattle.gd_rules.specs.Question.Element.{Segment, Receipt, Delivery, Pool}
@@ -20,6 +21,10 @@ most_part ceiling j = tenth_end ceiling (j + 1) - tenth_end ceiling j
 abbrev pub least_part : ℕ → ℕ → ℕ → ℕ
 least_part ceiling floor j = min (max floor (tenth_end ceiling j)) (tenth_end ceiling (j + 1)) - tenth_end ceiling j
 
+-- How many arcs the network of a question has.
+abbrev pub arc_count : Question → ℕ
+arc_count q = length q.elements + 10 * length q.lines
+
 -- The arc of line i's tenth after j tenths.
 abbrev pub tenth_arc : Question → ℕ → ℕ → ℕ
 tenth_arc q i j = length q.elements + (10 * i + j)
@@ -30,7 +35,12 @@ element_arc e x = record { from = start_of e x; to = stop_of e x; lower = pos 0;
 
 -- The arc of a line's tenth after j tenths, from its destination back to its origin.
 abbrev pub line_arc : Line → ℕ → Arc
-line_arc l j = record { from = end_node l.dest; to = end_node l.origin; lower = pos (least_part l.ceiling l.floor j); upper = pos (most_part l.ceiling j) }
+line_arc l j = record {
+  from = end_node l.dest;
+  to = end_node l.origin;
+  lower = pos (least_part l.ceiling l.floor j);
+  upper = pos (most_part l.ceiling j);
+}
 
 -- A network is its arcs, by number.
 abbrev pub Net : Type 0
@@ -56,6 +66,6 @@ upper_at n a = (arc_at n a).upper
 
 -- The network of a question: an arc for each element, and then ten for each line.
 pub record IsNetwork (q : Question) (n : Net) : Type 0 where
-  pub size : length n ≡ length q.elements + 10 * length q.lines
+  pub size : length n ≡ arc_count q
   pub elements : (e : ℕ) → e < length q.elements → arc_at n e ≡ element_arc e (element q e)
   pub tenths : (i j : ℕ) → i < length q.lines → j < 10 → arc_at n (tenth_arc q i j) ≡ line_arc (line q i) j

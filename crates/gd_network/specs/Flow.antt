@@ -32,12 +32,16 @@ bound_of false true low high = low
 bound_of true false low high = neg_ℤ high
 
 abbrev pub arc_excess : (ℕ → Bool) → Net → ℤ
-arc_excess inside n = sum_int (length n) (λ a. bound_of (inside (from_at n a)) (inside (to_at n a)) (lower_at n a) (upper_at n a))
+arc_excess inside n =
+    sum_int (length n)
+    (λ a. bound_of (inside (from_at n a)) (inside (to_at n a)) (lower_at n a) (upper_at n a))
 
 -- No step leaves the set: an arc that leads into it can't carry less, and one that leads out of it can't carry more.
 pub record IsEdge (n : Net) (flow : List ℤ) (inside : ℕ → Bool) : Type 0 where
-  pub into : (a : ℕ) → a < length n → inside (from_at n a) ≡ false → inside (to_at n a) ≡ true → flow_at flow a ≤ℤ lower_at n a
-  pub out : (a : ℕ) → a < length n → inside (from_at n a) ≡ true → inside (to_at n a) ≡ false → upper_at n a ≤ℤ flow_at flow a
+  pub into : (a : ℕ) → a < length n → inside (from_at n a) ≡ false → inside (to_at n a) ≡ true
+      → flow_at flow a ≤ℤ lower_at n a
+  pub out : (a : ℕ) → a < length n → inside (from_at n a) ≡ true → inside (to_at n a) ≡ false
+      → upper_at n a ≤ℤ flow_at flow a
 
 -- An arc into the set that carries too little, or one out of it that carries too much.
 abbrev pub IsShort : Net → List ℤ → (ℕ → Bool) → ℕ → Type 0
@@ -47,12 +51,16 @@ IsShort n flow inside a =
 
 -- Which part of a quantity lies in the tenth after j tenths. What is above the ceiling counts with the last one.
 abbrev pub part_of : ℕ → ℕ → ℕ → ℕ
-part_of ceiling n j = (if j == 9 then max n (tenth_end ceiling j) else min (max n (tenth_end ceiling j)) (tenth_end ceiling (j + 1))) - tenth_end ceiling j
+part_of ceiling n j =
+    (if j == 9 then max n (tenth_end ceiling j)
+    else min (max n (tenth_end ceiling j)) (tenth_end ceiling (j + 1)))
+    - tenth_end ceiling j
 
 -- The flow of a schedule: the loads, and each line's quantity over its tenths.
 pub record IsFlowOf (q : Question) (schedule : List ℕ) (flow : List ℤ) : Type 0 where
   pub loads : (e : ℕ) → e < length q.elements → flow_at flow e ≡ load q schedule e
-  pub parts : (i j : ℕ) → i < length q.lines → j < 10 → flow_at flow (tenth_arc q i j) ≡ pos (part_of (line q i).ceiling (quantity schedule i) j)
+  pub parts : (i j : ℕ) → i < length q.lines → j < 10
+      → flow_at flow (tenth_arc q i j) ≡ pos (part_of (line q i).ceiling (quantity schedule i) j)
 
 -- The schedule of a flow: what each line's ten arcs carry.
 pub record IsScheduleOf (q : Question) (flow : List ℤ) (schedule : List ℕ) : Type 0 where
@@ -61,9 +69,12 @@ pub record IsScheduleOf (q : Question) (flow : List ℤ) (schedule : List ℕ) :
 
 -- The places and ends of a side are those whose nodes are inside.
 abbrev pub ElementAgrees : Side → (ℕ → Bool) → ℕ → Element → Type 0
-ElementAgrees side inside e (Segment from to capacity) = (has_place side from ≡ inside from) × (has_place side to ≡ inside to)
-ElementAgrees side inside e (Receipt place capacity) = (has_end side e ≡ inside (end_node e)) × (has_place side place ≡ inside place)
-ElementAgrees side inside e (Delivery place capacity) = (has_end side e ≡ inside (end_node e)) × (has_place side place ≡ inside place)
+ElementAgrees side inside e (Segment from to capacity) =
+    (has_place side from ≡ inside from) × (has_place side to ≡ inside to)
+ElementAgrees side inside e (Receipt place capacity) =
+    (has_end side e ≡ inside (end_node e)) × (has_place side place ≡ inside place)
+ElementAgrees side inside e (Delivery place capacity) =
+    (has_end side e ≡ inside (end_node e)) × (has_place side place ≡ inside place)
 ElementAgrees side inside e (Pool place) = has_end side e ≡ inside (end_node e)
 
 abbrev pub IsSideOf : Question → (ℕ → Bool) → Side → Type 0

@@ -14,8 +14,10 @@ pub record IsGains {V : Type 0} (s : Scale V) (unit : ℕ → ℕ → V) (q : Qu
 
 -- Along no arc that can carry more, and back along none that can carry less, is there a label to raise.
 pub record IsStill {V : Type 0} (s : Scale V) (n : Net) (flow : List ℤ) (gain : ℕ → V) (label : ℕ → V) : Type 0 where
-  pub along : (a : ℕ) → a < length n → flow_at flow a <ℤ upper_at n a → AtMost s (s.plus (label (from_at n a)) (gain a)) (label (to_at n a))
-  pub back : (a : ℕ) → a < length n → lower_at n a <ℤ flow_at flow a → AtMost s (s.plus (label (to_at n a)) (s.minus (gain a))) (label (from_at n a))
+  pub along : (a : ℕ) → a < length n → flow_at flow a <ℤ upper_at n a
+      → AtMost s (s.plus (label (from_at n a)) (gain a)) (label (to_at n a))
+  pub back : (a : ℕ) → a < length n → lower_at n a <ℤ flow_at flow a
+      → AtMost s (s.plus (label (to_at n a)) (s.minus (gain a))) (label (from_at n a))
 
 -- An element's price is how far its arc's end lies below its start.
 pub record ArePrices {V : Type 0} (s : Scale V) (q : Question) (label : ℕ → V) (prices : List V) : Type 0 where

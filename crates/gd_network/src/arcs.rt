@@ -1,10 +1,11 @@
 //! The arcs of a network.
 
 ghost use Rattle.std.specs.Prelude.{◌≡◌, ◌+◌, ◌*◌, ◌<◌, ◌≤◌, ◌^◌, pos, ◌≤ℤ◌, length, IfOk, OnOk};
+ghost use Rattle.gd_rules.specs.Limits.{most_dekatherms};
 ghost use Rattle.gd_rules.specs.Question.{line as asked_line};
 ghost use Rattle.gd_rules.specs.Spread.{tenth_end};
 ghost use Rattle.gd_system.specs.Pipeline.{element_of};
-ghost use Rattle.gd_network.specs.Arcs.{most_of, most_part, least_part, tenth_arc, element_arc, line_arc};
+ghost use Rattle.gd_network.specs.Arcs.{arc_count, most_of, most_part, least_part, tenth_arc, element_arc, line_arc};
 ghost use Rattle.gd_question.specs.Nodes.{start_of, stop_of};
 ghost use Rattle.gd_network.specs.Holds.{FirstArcs};
 
@@ -49,7 +50,7 @@ fn stop(part: &Part, at: usize) -> usize
 /// What it carries at most: nothing where it is a pool.
 fn most(part: &Part) -> i64
     ensures is { result ≡ pos (most_of (element_of part.now)) }
-    ensures small { result ≤ℤ pos 1_000_000_000 }
+    ensures small { result ≤ℤ pos most_dekatherms }
 {
     match *part {
         Part::Segment(_, _, capacity) => capacity.get() as i64,
@@ -62,7 +63,7 @@ fn most(part: &Part) -> i64
 fn element_arc(part: Part, at: usize) -> Arc
     requires { at < 2 ^ 32 }
     ensures is { result ≡ element_arc at (element_of part) }
-    ensures small { result.upper ≤ℤ pos 1_000_000_000 }
+    ensures small { result.upper ≤ℤ pos most_dekatherms }
 {
     Arc {
         from: start(&part, at),
@@ -74,7 +75,7 @@ fn element_arc(part: Part, at: usize) -> Arc
 
 /// The last dekatherm of a tenth of the ceiling.
 pub(crate) fn tenth_end(ceiling: u64, tenth: usize) -> u64
-    requires ceiling { ceiling ≤ 1_000_000_000 }
+    requires ceiling { ceiling ≤ most_dekatherms }
     requires tenth { tenth ≤ 10 }
     ensures { result ≡ tenth_end ceiling tenth }
 {
@@ -83,18 +84,18 @@ pub(crate) fn tenth_end(ceiling: u64, tenth: usize) -> u64
 
 /// What the tenth after so many others holds at most.
 fn most_in(ceiling: u64, tenth: usize) -> i64
-    requires ceiling { ceiling ≤ 1_000_000_000 }
+    requires ceiling { ceiling ≤ most_dekatherms }
     requires tenth { tenth < 10 }
     ensures is { result ≡ pos (most_part ceiling tenth) }
-    ensures small { result ≤ℤ pos 1_000_000_000 }
+    ensures small { result ≤ℤ pos most_dekatherms }
 {
     (tenth_end(ceiling, tenth + 1) - tenth_end(ceiling, tenth)) as i64
 }
 
 /// What it holds of the floor.
 fn least_in(ceiling: u64, floor: u64, tenth: usize) -> i64
-    requires ceiling { ceiling ≤ 1_000_000_000 }
-    requires floor { floor ≤ 1_000_000_000 }
+    requires ceiling { ceiling ≤ most_dekatherms }
+    requires floor { floor ≤ most_dekatherms }
     requires tenth { tenth < 10 }
     ensures { result ≡ pos (least_part ceiling floor tenth) }
 {
@@ -106,7 +107,7 @@ fn line_arc(question: &Question, line: usize, tenth: usize) -> Arc
     requires line { line < length question.now.asked.lines }
     requires tenth { tenth < 10 }
     ensures is { result ≡ line_arc (asked_line question.now.asked line) tenth }
-    ensures small { result.upper ≤ℤ pos 1_000_000_000 }
+    ensures small { result.upper ≤ℤ pos most_dekatherms }
 {
     question.known();
     let ceiling = question.ceiling(line).get();
@@ -145,7 +146,7 @@ fn add_line(question: &Question, line: usize, arcs: &mut Vec<Arc>) -> Result<(),
 
 /// All arcs of a question's network.
 pub(crate) fn arcs_of(alloc: Global, question: &Question) -> Result<Vec<Arc>, AllocError>
-    ensures { IfOk result (λ arcs. FirstArcs question.now.asked (length question.now.asked.elements + 10 * length question.now.asked.lines) arcs.items) }
+    ensures { IfOk result (λ arcs. FirstArcs question.now.asked (arc_count question.now.asked) arcs.items) }
 {
     let mut arcs = element_arcs(alloc, question)?;
     for line in 0..question.line_count() {

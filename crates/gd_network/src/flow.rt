@@ -1,10 +1,11 @@
 //! Flows over a network, and the schedules that they stand for.
 
 ghost use Rattle.std.specs.Prelude.{◌≡◌, ℕ, ◌+◌, ◌*◌, ◌<◌, ◌≤◌, pos, ◌≤ℤ◌, length, IfOk, OnOk};
+ghost use Rattle.gd_rules.specs.Limits.{most_dekatherms, most_elements, most_lines};
 ghost use Rattle.gd_rules.specs.Question.{line as asked_line};
 ghost use Rattle.gd_rules.specs.Schedule.{quantity};
 ghost use Rattle.gd_rules.specs.Sum.{sum_int};
-ghost use Rattle.gd_network.specs.Arcs.{tenth_arc, IsNetwork};
+ghost use Rattle.gd_network.specs.Arcs.{arc_count, tenth_arc, IsNetwork};
 ghost use Rattle.gd_network.specs.Flow.{flow_at, part_of, IsWithin, IsScheduleOf};
 ghost use Rattle.gd_network.specs.Begun.{clamped, brought};
 ghost use Rattle.gd_network.specs.Holds.{FirstFlows};
@@ -17,7 +18,8 @@ use gd_units::Dth;
 use std::alloc::{AllocError, Global};
 use std::marker::Model;
 
-/// What flows along each arc of a network, by the arcs' numbers, in dekatherms a gas day. Below 0 it flows against the arc.
+/// What flows along each arc of a network, by the arcs' numbers, in dekatherms a gas day. Below 0 it flows against
+/// the arc.
 #[derive(Debug, Drop)]
 pub struct Flow {
     amounts: Vec<i64>,
@@ -65,8 +67,8 @@ impl Flow {
 
 /// What lies of a quantity in the tenth after so many others. What is above the ceiling counts with the last one.
 fn part_in(ceiling: u64, quantity: u64, tenth: usize) -> i64
-    requires ceiling { ceiling ≤ 1_000_000_000 }
-    requires quantity { quantity ≤ 1_000_000_000 }
+    requires ceiling { ceiling ≤ most_dekatherms }
+    requires quantity { quantity ≤ most_dekatherms }
     requires tenth { tenth < 10 }
     ensures { result ≡ pos (part_of ceiling quantity tenth) }
 {
@@ -107,7 +109,7 @@ pub(crate) fn flow_of(
     schedule: &Schedule,
 ) -> Result<Flow, AllocError>
     requires { length schedule.now ≡ length question.now.asked.lines }
-    ensures { IfOk result (FirstFlows question.now.asked schedule.now (length question.now.asked.elements + 10 * length question.now.asked.lines)) }
+    ensures { IfOk result (FirstFlows question.now.asked schedule.now (arc_count question.now.asked)) }
 {
     let mut amounts = load_table(alloc, question, schedule)?;
     for line in 0..question.line_count() {
@@ -118,11 +120,11 @@ pub(crate) fn flow_of(
 
 /// What the ten arcs of a line carry together.
 fn carried_by(flow: &[i64], elements: usize, line: usize) -> u64
-    requires few { elements ≤ 8447 }
-    requires line { line < 20000 }
+    requires few { elements ≤ most_elements }
+    requires line { line < most_lines }
     requires size { elements + (10 * line + 9) < length flow.now }
     requires low { (j : ℕ) → j < 10 → pos 0 ≤ℤ flow_at flow.now (elements + (10 * line + j)) }
-    requires high { (j : ℕ) → j < 10 → flow_at flow.now (elements + (10 * line + j)) ≤ℤ pos 1_000_000_000 }
+    requires high { (j : ℕ) → j < 10 → flow_at flow.now (elements + (10 * line + j)) ≤ℤ pos most_dekatherms }
     ensures { pos result ≡ sum_int 10 (λ j. flow_at flow.now (elements + (10 * line + j))) }
 {
     let mut sum: u64 = 0;
@@ -179,14 +181,7 @@ fn clamp(question: &Question, schedule: &Schedule, line: usize) -> Dth
     if line >= schedule.len() {
         return floor;
     }
-    let planned = schedule.quantity(line);
-    if planned > ceiling {
-        ceiling
-    } else if planned < floor {
-        floor
-    } else {
-        planned
-    }
+    schedule.quantity(line).max(floor).min(ceiling)
 }
 
 /// A schedule brought within the lines' bounds.

@@ -22,7 +22,8 @@ fn no_links(alloc: Global, nodes: usize) -> Result<Vec<Vec<usize>>, AllocError>
 fn note(links: &mut Vec<Vec<usize>>, node: usize, arc: usize) -> Result<(), AllocError>
     requires { node < length links.old.items }
     ensures sized { length links.new.items ≡ length links.old.items }
-    ensures noted { OnOk result ((v : ℕ) → get_or (lists links.new.items) v [] ≡ get_or (lists links.old.items) v [] ++ (if v == node then arc ∷ [] else [])) }
+    ensures noted { OnOk result ((v : ℕ) → get_or (lists links.new.items) v []
+        ≡ get_or (lists links.old.items) v [] ++ (if v == node then arc ∷ [] else [])) }
 {
     links[node].push(arc)?;
     Ok(())
@@ -33,7 +34,8 @@ fn add(links: &mut Vec<Vec<usize>>, arc: Arc, number: usize) -> Result<(), Alloc
     requires from { arc.from < length links.old.items }
     requires to { arc.to < length links.old.items }
     ensures sized { length links.new.items ≡ length links.old.items }
-    ensures noted { OnOk result ((v : ℕ) → get_or (lists links.new.items) v [] ≡ get_or (lists links.old.items) v [] ++ (if touches arc v then number ∷ [] else [])) }
+    ensures noted { OnOk result ((v : ℕ) → get_or (lists links.new.items) v []
+        ≡ get_or (lists links.old.items) v [] ++ (if touches arc v then number ∷ [] else [])) }
 {
     note(links, arc.from, number)?;
     if arc.to != arc.from {

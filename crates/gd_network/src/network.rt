@@ -30,10 +30,10 @@ pub struct Tenth {
 
 /// A question as a network of nodes and arcs, and a flow to begin with.
 ///
-/// Places, points and pools are nodes: a place has its own number, and a point or pool the one after its element's number.
-/// Arc e, from 0, is that of element e, and its flow is the load: it leads along a segment, from a receipt point into its
-/// place, and from a place to its delivery point or pool. Its flow lies between 0 and the capacity, which is 0 at a pool.
-/// Then come ten arcs for each line, from its destination back to its origin, one for each tenth of its ceiling.
+/// Places, points and pools are nodes: a place has its own number, and a point or pool the one after its element's
+/// number. Arc e, from 0, is that of element e, and its flow is the load: it leads along a segment, from a receipt
+/// point into its place, and from a place to its delivery point or pool. Its flow lies between 0 and the capacity, which
+/// is 0 at a pool. Then come ten arcs for each line, from its destination back to its origin, one for each tenth of its ceiling.
 #[derive(Drop)]
 pub struct Network<'q> {
     question: &'q Question,
@@ -60,7 +60,8 @@ impl<'q> Network<'q> {
     pub fn of(alloc: Global, question: &'q Question) -> Result<Network<'q>, AllocError>
         ensures asked { IfOk result (λ network. network.question ≡ question.now) }
         ensures arcs { IfOk result (λ network. IsNetwork question.now.asked network.arcs) }
-        ensures first { IfOk result (λ network. IsFlowOf question.now.asked (brought question.now.asked.lines []) network.first) }
+        ensures first { IfOk result
+            (λ network. IsFlowOf question.now.asked (brought question.now.asked.lines []) network.first) }
     {
         let none = Schedule::of(Vec::new(alloc));
         Network::at(alloc, question, &none)
@@ -76,7 +77,8 @@ impl<'q> Network<'q> {
     ) -> Result<Network<'q>, AllocError>
         ensures asked { IfOk result (λ network. network.question ≡ question.now) }
         ensures arcs { IfOk result (λ network. IsNetwork question.now.asked network.arcs) }
-        ensures first { IfOk result (λ network. IsFlowOf question.now.asked (brought question.now.asked.lines schedule.now) network.first) }
+        ensures first { IfOk result
+            (λ network. IsFlowOf question.now.asked (brought question.now.asked.lines schedule.now) network.first) }
     {
         question.known();
         let begun = bring(alloc, question, schedule)?;
@@ -93,7 +95,8 @@ impl<'q> Network<'q> {
         })
     }
 
-    /// What holds of every network: its arcs are those of its question, whose elements lie in its pipeline, element e brings node e + 1, and the flow to begin with balances.
+    /// What holds of every network: its arcs are those of its question, whose elements lie in its pipeline, element e
+    /// brings node e + 1, and the flow to begin with balances.
     pub fn known(&self)
         ensures network { IsNetwork self.now.question.asked self.now.arcs }
         ensures question { IsKnown self.now.question.asked }
@@ -151,7 +154,8 @@ impl<'q> Network<'q> {
         requires { number < length self.now.arcs }
         ensures { MatchOption result
             (number < length self.now.question.asked.elements)
-            (λ tenth. (tenth.line < length self.now.question.asked.lines) × (tenth.before < 10) × (number ≡ tenth_arc self.now.question.asked tenth.line tenth.before)) }
+            (λ tenth. (tenth.line < length self.now.question.asked.lines) × (tenth.before < 10)
+            × (number ≡ tenth_arc self.now.question.asked tenth.line tenth.before)) }
     {
         self.known();
         let question = self.question;
@@ -170,7 +174,9 @@ impl<'q> Network<'q> {
     pub fn ends(&self, element: Element) -> Option<(usize, usize)>
         ensures { MatchOption result
             (length self.now.question.asked.elements ≤ element.0)
-            (λ ends. (element.0 < length self.now.question.asked.elements) × (ends.0 ≡ start self.now.question.asked element.0) × (ends.1 ≡ stop self.now.question.asked element.0)) }
+            (λ ends. (element.0 < length self.now.question.asked.elements)
+            × (ends.0 ≡ start self.now.question.asked element.0)
+            × (ends.1 ≡ stop self.now.question.asked element.0)) }
     {
         if element.0 >= self.question.element_count() {
             return None;
@@ -186,14 +192,16 @@ impl<'q> Network<'q> {
         &self.first
     }
 
-    /// The flow of a schedule: each element's arc carries its load, and each line's arcs its quantity, tenth by tenth. The only error is want of memory.
+    /// The flow of a schedule: each element's arc carries its load, and each line's arcs its quantity, tenth by
+    /// tenth. The only error is want of memory.
     ///
     /// It asks for one quantity for each line. What is above a ceiling counts with the last tenth.
     pub fn flow_of(&self, alloc: Global, schedule: &Schedule) -> Result<Flow, AllocError>
         requires { length schedule.now ≡ length self.now.question.asked.lines }
         ensures flow { IfOk result (IsFlowOf self.now.question.asked schedule.now) }
         ensures balances { IfOk result (IsCirculation self.now.arcs) }
-        ensures within { IfOk result (λ flow. IsAllowed self.now.question.asked schedule.now → IsWithin self.now.arcs flow) }
+        ensures within { IfOk result
+            (λ flow. IsAllowed self.now.question.asked schedule.now → IsWithin self.now.arcs flow) }
         ensures small { IfOk result (IsFirst self.now.arcs) }
         ensures back { IfOk result (λ flow. IsScheduleOf self.now.question.asked flow schedule.now) }
     {
@@ -202,7 +210,8 @@ impl<'q> Network<'q> {
         flow_of(alloc, self.question, schedule)
     }
 
-    /// The schedule of a flow: what each line's arcs carry. It is allowed, and an element's load is the flow of its arc. The only error is want of memory.
+    /// The schedule of a flow: what each line's arcs carry. It is allowed, and an element's load is the flow of its
+    /// arc. The only error is want of memory.
     ///
     /// It asks for a flow that balances within the bounds.
     pub fn schedule_of(&self, alloc: Global, flow: &Flow) -> Result<Schedule, AllocError>
@@ -211,7 +220,9 @@ impl<'q> Network<'q> {
         requires within { IsWithin self.now.arcs flow.now }
         ensures schedule { IfOk result (IsScheduleOf self.now.question.asked flow.now) }
         ensures allowed { IfOk result (IsAllowed self.now.question.asked) }
-        ensures loads { IfOk result (λ schedule. (e : ℕ) → e < length self.now.question.asked.elements → load self.now.question.asked schedule e ≡ flow_at flow.now e) }
+        ensures loads { IfOk result
+            (λ schedule. (e : ℕ) → e < length self.now.question.asked.elements
+            → load self.now.question.asked schedule e ≡ flow_at flow.now e) }
     {
         self.known();
         schedule_of(alloc, self.question, &self.arcs, flow.amounts())

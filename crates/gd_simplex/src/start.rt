@@ -19,14 +19,7 @@ fn first_quantity(question: &Question, first: &Schedule, line: usize) -> Dth
     if line >= first.len() {
         return floor;
     }
-    let planned = first.quantity(line);
-    if planned > ceiling {
-        ceiling
-    } else if planned < floor {
-        floor
-    } else {
-        planned
-    }
+    first.quantity(line).max(floor).min(ceiling)
 }
 
 /// The quantities with which the lines begin.

@@ -1,6 +1,7 @@
 //! What a dekatherm is worth, in a form that is quick to add and to compare.
 
 use gd_cost::{Lex, Pair, Tariff};
+use gd_units::Class;
 use std::alloc::{AllocError, Global};
 
 /// How many bits a class has in `Worth::classes`.
@@ -10,7 +11,7 @@ const CLASS_BITS: u32 = 14;
 const SPREAD_BITS: u32 = 16;
 
 /// The eight classes, and class 0 for elements.
-const CLASSES: usize = 9;
+const CLASSES: usize = Class::COUNT + 1;
 
 /// How many worths there are in the table for each class: more than there are pieces.
 const PIECES: usize = 16;
@@ -18,9 +19,10 @@ const PIECES: usize = 16;
 /// A whole number for each class and, for each, one of the spread, in two numbers: each class has some bits of them, the
 /// first class the highest. So two additions add all, and at most two comparisons find the first that differ.
 ///
-/// Above the classes stands how far elements are beyond their bounds, so that this counts most. No number outgrows its bits: each is a sum
-/// along a way through the tree, which comes to each of at most 4,352 points and pools once, and so goes over fewer lines.
-/// Were one to do so, it would run into the next class, and the proposal would be worse; nothing else would be wrong.
+/// Above the classes stands how far elements are beyond their bounds, so that this counts most. No number outgrows its
+/// bits: each is a sum along a way through the tree, which comes to each of at most 4,352 points and pools once, and so
+/// goes over fewer lines. Were one to do so, it would run into the next class, and the proposal would be worse; nothing
+/// else would be wrong.
 #[derive(Clone, Copy, Debug)]
 pub(crate) struct Worth {
     classes: i128,
@@ -75,13 +77,13 @@ impl Worth {
 ///
 /// The first one takes what stands above it too: so how far elements are beyond their bounds counts more than any class, as
 /// it has to, also where the best tree has an element at its bound in the piece beyond it.
-fn numbers(together: i128, bits: u32) -> [i128; 8] {
+fn numbers(together: i128, bits: u32) -> [i128; Class::COUNT] {
     let above = 128u32.wrapping_sub(bits);
-    let mut numbers = [0; 8];
+    let mut numbers = [0; Class::COUNT];
     let mut rest = together;
-    for later in 0..7 {
+    for later in 1..Class::COUNT {
         let number = rest.wrapping_shl(above).wrapping_shr(above);
-        numbers[7 - later] = number;
+        numbers[Class::COUNT - later] = number;
         rest = rest.wrapping_sub(number).wrapping_shr(bits);
     }
     numbers[0] = rest;
@@ -98,13 +100,13 @@ pub(crate) struct Gains {
 /// bounds and further away, and a line's tenths have their class and, where they count, their weight.
 fn gained(class: u32, piece: i128, tenths: bool) -> Worth {
     if class == 0 {
-        let bound = 1i128.wrapping_shl(8 * CLASS_BITS);
+        let bound = 1i128.wrapping_shl(u32::from(Class::MAX) * CLASS_BITS);
         return Worth {
             classes: bound.wrapping_mul(1i128.wrapping_sub(piece)),
             spread: 0,
         };
     }
-    let later = 8u32.wrapping_sub(class);
+    let later = u32::from(Class::MAX).wrapping_sub(class);
     let weight = if tenths { piece } else { 0 };
     Worth {
         classes: 1i128.wrapping_shl(later.wrapping_mul(CLASS_BITS)),

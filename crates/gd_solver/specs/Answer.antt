@@ -11,5 +11,8 @@ use Rattle.gd_solver.specs.declared.answer.Answer.TheVariants.{Best, Impossible}
 
 -- A best schedule with prices by the tariff that show it best, or a cut where no schedule is allowed.
 abbrev pub Solves : Posed → Answer → Type 0
-Solves q (Best schedule prices) = IsAllowed q.asked schedule × IsPricedByTariff q.asked schedule (map class_words prices) × IsBest q.asked schedule
-Solves q (Impossible cut) = IsShaped q.pipeline cut × Cuts q cut × ((schedule : List ℕ) → IsAllowed q.asked schedule → ⊥)
+Solves q (Best schedule prices) =
+    IsAllowed q.asked schedule × IsPricedByTariff q.asked schedule (map class_words prices)
+    × IsBest q.asked schedule
+Solves q (Impossible cut) =
+    IsShaped q.pipeline cut × Cuts q cut × ((schedule : List ℕ) → IsAllowed q.asked schedule → ⊥)

@@ -84,7 +84,8 @@ pub fn solve(alloc: Global, question: &Question) -> Result<Answer, AllocError>
     solve_with(alloc, question, propose(alloc, question, &floors)?)
 }
 
-/// The same, beginning from a schedule: entries past the lines are dropped, missing ones are 0, and each is brought between floor and ceiling. The only error is want of memory.
+/// The same, beginning from a schedule: entries past the lines are dropped, missing ones are 0, and each is brought
+/// between floor and ceiling. The only error is want of memory.
 pub fn solve_from(
     alloc: Global,
     question: &Question,

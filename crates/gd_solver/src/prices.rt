@@ -1,11 +1,12 @@
 //! Prices from potentials.
 
-ghost use Rattle.std.specs.Prelude.{◌≡◌, ℕ, pos, ◌+◌, ◌<◌, ◌^◌, length, map, IfOk, IsTrue};
+ghost use Rattle.std.specs.Prelude.{◌≡◌, ℕ, pos, ◌+◌, ◌<◌, length, map, IfOk, IsTrue};
+ghost use Rattle.gd_rules.specs.Limits.{most_price_word};
 ghost use Rattle.gd_rules.specs.Priced.{price};
 ghost use Rattle.gd_question.specs.Nodes.{start, stop};
 ghost use Rattle.gd_network.specs.Potential.{ArePrices};
 ghost use Rattle.gd_rules.specs.Scale.{less};
-ghost use Rattle.gd_mincost.specs.Settled.{potential};
+ghost use Rattle.gd_mincost.specs.Settled.{potential, most_potential};
 
 use gd_cost::Cost;
 use gd_network::Network;
@@ -15,9 +16,12 @@ use std::alloc::{AllocError, Global};
 fn fall<C: Cost>(network: &Network<'_>, potentials: &[C], element: usize) -> C
     requires element { element < length network.now.question.asked.elements }
     requires nodes { length potentials.now ≡ length network.now.question.asked.elements + 1 }
-    requires small { (node : ℕ) → node < length potentials.now → IsTrue (C.within (pos (2 ^ 39)) (potential C.scale (map C.meaning potentials.now) node)) }
-    ensures is { C.meaning result ≡ less C.scale (potential C.scale (map C.meaning potentials.now) (start network.now.question.asked element)) (potential C.scale (map C.meaning potentials.now) (stop network.now.question.asked element)) }
-    ensures small { IsTrue (C.within (pos (2 ^ 40)) (C.meaning result)) }
+    requires small { (node : ℕ) → node < length potentials.now
+        → IsTrue (C.within (pos most_potential) (potential C.scale (map C.meaning potentials.now) node)) }
+    ensures is { C.meaning result ≡ less C.scale
+        (potential C.scale (map C.meaning potentials.now) (start network.now.question.asked element))
+        (potential C.scale (map C.meaning potentials.now) (stop network.now.question.asked element)) }
+    ensures small { IsTrue (C.within (pos most_price_word) (C.meaning result)) }
 {
     network.known();
     let arc = network.arc(element);
@@ -31,9 +35,13 @@ pub(crate) fn prices_of<C: Cost>(
     potentials: &[C],
 ) -> Result<Vec<C>, AllocError>
     requires nodes { length potentials.now ≡ length network.now.question.asked.elements + 1 }
-    requires small { (node : ℕ) → node < length potentials.now → IsTrue (C.within (pos (2 ^ 39)) (potential C.scale (map C.meaning potentials.now) node)) }
-    ensures falls { IfOk result (λ prices. ArePrices C.scale network.now.question.asked (potential C.scale (map C.meaning potentials.now)) (map C.meaning prices.items)) }
-    ensures small { IfOk result (λ prices. (e : ℕ) → e < length network.now.question.asked.elements → IsTrue (C.within (pos (2 ^ 40)) (price C.scale (map C.meaning prices.items) e))) }
+    requires small { (node : ℕ) → node < length potentials.now
+        → IsTrue (C.within (pos most_potential) (potential C.scale (map C.meaning potentials.now) node)) }
+    ensures falls { IfOk result (λ prices. ArePrices C.scale network.now.question.asked
+        (potential C.scale (map C.meaning potentials.now)) (map C.meaning prices.items)) }
+    ensures small { IfOk result
+        (λ prices. (e : ℕ) → e < length network.now.question.asked.elements
+        → IsTrue (C.within (pos most_price_word) (price C.scale (map C.meaning prices.items) e))) }
 {
     let mut prices = Vec::new(alloc);
     for element in 0..network.question().element_count() {

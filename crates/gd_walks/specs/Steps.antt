@@ -38,7 +38,9 @@ AreSteps n walk = (k : ℕ) (s : Step) → k < length walk → (get_or walk k s)
 
 -- No step comes twice.
 abbrev pub Once : List Step → Type 0
-Once walk = (j k : ℕ) (s : Step) → j < k → k < length walk → (get_or walk j s).arc ≡ (get_or walk k s).arc → (get_or walk j s).back ≢ (get_or walk k s).back
+Once walk =
+    (j k : ℕ) (s : Step) → j < k → k < length walk → (get_or walk j s).arc ≡ (get_or walk k s).arc
+    → (get_or walk j s).back ≢ (get_or walk k s).back
 
 -- The least room of the steps, and at most so much.
 abbrev pub least_room : Net → List ℤ → List Step → ℤ → ℤ
@@ -65,10 +67,14 @@ amiss_at n flow a = amiss (lower_at n a) (upper_at n a) (flow_at flow a)
 abbrev pub all_amiss : Net → List ℤ → ℕ
 all_amiss n flow = sum_nat (length n) (amiss_at n flow)
 
+-- How far from its bounds an amount may be to be counted with.
+abbrev pub most_amiss : ℕ
+most_amiss = 2 ^ 62
+
 -- There is an amount for each arc, and none is too far from its bounds to count with.
 pub record IsNear (n : Net) (flow : List ℤ) : Type 0 where
   pub size : length flow ≡ length n
-  pub near : (a : ℕ) → a < length n → amiss_at n flow a ≤ 2 ^ 62
+  pub near : (a : ℕ) → a < length n → amiss_at n flow a ≤ most_amiss
 
 -- No arc is further from its bounds.
 abbrev pub IsNearer : Net → List ℤ → List ℤ → Type 0
@@ -76,4 +82,6 @@ IsNearer n old new = (a : ℕ) → a < length n → amiss_at n new a ≤ amiss_a
 
 -- A step along an arc that carries too little, or back along one that carries too much.
 abbrev pub Mends : Net → List ℤ → Step → Type 0
-Mends n flow s = ((s.back ≡ false) × (flow_at flow s.arc <ℤ lower_at n s.arc)) ⊎ ((s.back ≡ true) × (upper_at n s.arc <ℤ flow_at flow s.arc))
+Mends n flow s =
+    ((s.back ≡ false) × (flow_at flow s.arc <ℤ lower_at n s.arc))
+    ⊎ ((s.back ≡ true) × (upper_at n s.arc <ℤ flow_at flow s.arc))

@@ -33,9 +33,11 @@ fn push_step(flow: &mut [i64], step: Step, amount: i64)
     }
 }
 
-/// Carries an amount, in dekatherms a gas day, along each step of a walk, no step of which comes twice and each of which has the room.
+/// Carries an amount, in dekatherms a gas day, along each step of a walk, no step of which comes twice and each of
+/// which has the room.
 ///
-/// It asks for an amount of at least 0 and for as many entries in the flow as arcs. Along a closed walk the flow balances as before. No arc comes further from its bounds, and an arc that the walk mends comes nearer to them.
+/// It asks for an amount of at least 0 and for as many entries in the flow as arcs. Along a closed walk the flow
+/// balances as before. No arc comes further from its bounds, and an arc that the walk mends comes nearer to them.
 pub fn push(network: &Network<'_>, flow: &mut [i64], walk: &[Step], amount: i64)
     requires size { length flow.old ≡ length network.now.arcs }
     requires fits { (a : ℕ) → FitsSigned w64 (flow_at flow.old a) }
@@ -46,10 +48,13 @@ pub fn push(network: &Network<'_>, flow: &mut [i64], walk: &[Step], amount: i64)
     ensures size { length flow.new ≡ length network.now.arcs }
     ensures fits { (a : ℕ) → FitsSigned w64 (flow_at flow.new a) }
     ensures pushed { flow.new ≡ pushed flow.old walk.now amount }
-    ensures balances { (node : ℕ) → Follows network.now.arcs node walk.now node → IsCirculation network.now.arcs flow.old → IsCirculation network.now.arcs flow.new }
+    ensures balances { (node : ℕ) → Follows network.now.arcs node walk.now node
+        → IsCirculation network.now.arcs flow.old → IsCirculation network.now.arcs flow.new }
     ensures nearer { IsNearer network.now.arcs flow.old flow.new }
     ensures within { IsWithin network.now.arcs flow.old → IsWithin network.now.arcs flow.new }
-    ensures mends { (k : ℕ) (s : Step) → k < length walk.now → pos 0 <ℤ amount → Mends network.now.arcs flow.old (get_or walk.now k s) → all_amiss network.now.arcs flow.new < all_amiss network.now.arcs flow.old }
+    ensures mends { (k : ℕ) (s : Step) → k < length walk.now → pos 0 <ℤ amount
+        → Mends network.now.arcs flow.old (get_or walk.now k s)
+        → all_amiss network.now.arcs flow.new < all_amiss network.now.arcs flow.old }
 {
     network.known();
     for step in walk {
