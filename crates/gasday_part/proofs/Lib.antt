@@ -3,4 +3,3 @@ pub mod Rows
 pub mod Telling
 pub mod Writing
 pub mod Finding
-pub mod Days

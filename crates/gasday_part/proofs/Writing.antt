@@ -5,8 +5,8 @@ use Rattle.std.proofs.KnownBytes.{Appends-trans}
 use Rattle.std.proofs.lemmas.Grind.{flat_map-append}
 use Rattle.std.proofs.lemmas.List.{take-append-drop, take_more, take_all, append-nil, take-append-le}
 use Rattle.std.proofs.Math.Seq.{take-append-add}
-use Rattle.gd_text.specs.declared.reply.Reply.{Reply}
-use Rattle.gd_text.specs.Lines.{line_of, lines_of}
+use Rattle.gd_replies.specs.declared.reply.Reply.{Reply}
+use Rattle.gd_replies.specs.Lines.{line_of, lines_of}
 use Rattle.std.proofs.Common.{Some, None, IfSome}
 use Rattle.std.proofs.KnownBytes.{Appends-nil}
 use Rattle.gd_text_part.specs.declared.fault.TextFault.TheVariants as fault

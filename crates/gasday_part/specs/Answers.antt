@@ -1,11 +1,12 @@
 -- What a command answers to a text.
-use Rattle.std.specs.Prelude.{◌≡◌, ◌⊎◌, ℕ, ◌+◌, ℤ, pos, length, map, Option, Some, None, List, [], ◌∷◌, Result, Ok, Err}
+use Rattle.std.specs.Prelude.{◌≡◌, ◌⊎◌, ℕ, ℤ, pos, map, List, [], ◌∷◌, Result, Ok, Err}
 use Rattle.std.specs.Option.{IsSome}
 use Rattle.jiff.specs.Words.{IsYmd, read_whole}
 use Rattle.jiff.specs.Placed.{IsPosixZone}
 use Rattle.jiff.specs.Types.{Date, TimeZone}
 use Rattle.gd_calendar.specs.Range.{IsGasDay}
 use Rattle.gd_calendar.specs.Zone.{IsCalendarOf, IsBadZone}
+use Rattle.gd_rules.specs.Limits.{classes}
 use Rattle.gd_rules.specs.Schedule.{IsAllowed}
 use Rattle.gd_rules.specs.Spread.{IsBest}
 use Rattle.gd_rules.specs.Tariff.{IsPricedByTariff}
@@ -26,17 +27,17 @@ use Rattle.gd_text_part.specs.declared.fault.RowFault.{RowFault}
 use Rattle.gd_text_part.specs.declared.fault.TextFault.{TextFault}
 use Rattle.gd_text_part.specs.declared.fault.TextFault.TheVariants as fault
 use Rattle.gd_text_part.specs.Dates.{YearMonthDay}
-use Rattle.gd_text_part.specs.declared.fault.Cause.TheVariants as cause
 use Rattle.gd_text_part.specs.declared.kind.Form.{Form}
 use Rattle.gd_text_part.specs.declared.kind.Form.TheVariants as form
-use Rattle.gd_text.specs.Calendars.{day_of, calendar_rows}
-use Rattle.gd_text.specs.Values.{asked_of}
+use Rattle.gd_replies.specs.Calendars.{calendar_rows}
+use Rattle.gd_text.specs.Building.{told_at}
+use Rattle.gd_text.specs.Days.{day_of}
+use Rattle.gd_text.specs.Values.{asked_of, question_of}
 use Rattle.gd_text.specs.Prices.{Table, ArePrices, prices_of}
 use Rattle.gd_text.specs.Members.{members_of}
-use Rattle.gd_text.specs.Replies.{allowed_rows, best_rows, Tells, TellsFault, cut_fault_reply, solved_rows, cut_rows}
-use Rattle.gd_text.specs.declared.reply.Reply.{Reply}
-use Rattle.gd_text.specs.declared.reply.Reply.TheVariants as reply
-use Rattle.gd_text.specs.declared.reply.InputFault.TheVariants as input
+use Rattle.gd_replies.specs.Replies.{allowed_rows, best_rows, Tells, TellsFault, cut_fault_reply, solved_rows, cut_rows}
+use Rattle.gd_replies.specs.declared.reply.Reply.{Reply}
+use Rattle.gd_replies.specs.declared.reply.Reply.TheVariants as reply
 use Rattle.gasday_part.specs.declared.command.Command.{Command}
 use Rattle.gasday_part.specs.declared.command.Command.TheVariants as command
 
@@ -45,47 +46,66 @@ pub record Told : Type 0 where
   pub replies : List Reply
   pub status : ℕ
 
--- a fault is told in one row, with status 2
-abbrev pub fault_answer : TextFault → Told
-fault_answer fault.ReadFailed = record { replies = reply.InputFault input.ReadFailed ∷ []; status = 2 }
-fault_answer fault.TooLong = record { replies = reply.InputFault input.TooLong ∷ []; status = 2 }
-fault_answer (fault.Row n c) = record { replies = reply.RowFault n c ∷ []; status = 2 }
-fault_answer fault.OutOfMemory = record { replies = reply.InputFault input.OutOfMemory ∷ []; status = 2 }
+-- one row, and the exit status
+abbrev pub one : Reply → ℕ → Told
+one r status = record { replies = r ∷ []; status = status }
 
--- The schedule is allowed, and its class totals are told, with status 0. Or it is not, and what is first wrong is told, with status 1.
+-- a fault of the text is told with status 2
+abbrev pub fault_answer : TextFault → Told
+fault_answer f = one (reply.Fault f) 2
+
+-- what is not good is told in one row, with status 1
+abbrev pub refused : Reply → Told
+refused r = one r 1
+
+-- The schedule is allowed, and its class totals are told, with status 0. Or it is not, and what is first wrong is told, with
+-- status 1.
 abbrev pub ChecksAllowed : Posed → List ℕ → Told → Type 0
 ChecksAllowed q schedule a =
     (IsAllowed q.asked schedule × (a ≡ record { replies = allowed_rows q.asked schedule; status = 0 }))
-    ⊎ ((broken : Broken) × (r : Reply) × Explains q.asked schedule broken × Tells q broken r × (a ≡ record { replies = r ∷ []; status = 1 }))
+    ⊎ ((broken : Broken) × (r : Reply) × Explains q.asked schedule broken × Tells q broken r × (a ≡ refused r))
 
 -- what is asked is checked, or the first refusal is told
 abbrev pub ChecksAsked : Result (Posed × List ℕ) TextFault → Told → Type 0
 ChecksAsked (Ok asked) a = ChecksAllowed asked.0 asked.1 a
 ChecksAsked (Err f) a = a ≡ fault_answer f
 
--- what is not good is told in one row, with status 1
-abbrev pub refused : Reply → Told
-refused r = record { replies = r ∷ []; status = 1 }
+-- the price of each element
+abbrev pub Tariffs : Type 0
+Tariffs = List (Pair (Lex classes) (Lex classes))
 
--- The schedule is best, since the prices are right, and its class totals are told, with status 0. Or something is wrong, and what is first wrong is told, with status 1.
-abbrev pub ChecksPrices : Posed → List ℕ → List (Pair (Lex 8) (Lex 8)) → Told → Type 0
+-- the schedule is allowed, the prices are right for it, and so it is best
+abbrev pub IsShownBest : Posed → List ℕ → List ((ℕ → ℤ) × (ℕ → ℤ)) → Type 0
+IsShownBest q schedule prices =
+    IsAllowed q.asked schedule × IsPricedByTariff q.asked schedule prices × IsBest q.asked schedule
+
+-- The schedule is best, since the prices are right, and its class totals are told, with status 0. Or something is wrong,
+-- and what is first wrong is told, with status 1.
+abbrev pub ChecksPrices : Posed → List ℕ → Tariffs → Told → Type 0
 ChecksPrices q schedule prices a =
-    (IsAllowed q.asked schedule × IsPricedByTariff q.asked schedule (map class_words prices) × IsBest q.asked schedule × (a ≡ record { replies = best_rows q.asked schedule; status = 0 }))
-    ⊎ ((fault : CertFault) × (r : Reply) × ExplainsTariff q.asked schedule (map class_words prices) fault × TellsFault q fault r × (a ≡ refused r))
+    (IsShownBest q schedule (map class_words prices) × (a ≡ record { replies = best_rows q.asked schedule; status = 0 }))
+    ⊎ ((fault : CertFault) × (r : Reply) × ExplainsTariff q.asked schedule (map class_words prices) fault
+    × TellsFault q fault r × (a ≡ refused r))
 
 -- the prices that the rows give are checked, or the first refusal is told
 abbrev pub ChecksTable : Posed → List ℕ → Result Table TextFault → Told → Type 0
-ChecksTable q schedule (Ok table) a = (prices : List (Pair (Lex 8) (Lex 8))) × ArePrices table prices × ChecksPrices q schedule prices a
+ChecksTable q schedule (Ok table) a = (prices : Tariffs) × ArePrices table prices × ChecksPrices q schedule prices a
 ChecksTable q schedule (Err f) a = a ≡ fault_answer f
 
 abbrev pub ChecksBest : List Row → Result (Posed × List ℕ) TextFault → Told → Type 0
 ChecksBest rows (Ok asked) a = ChecksTable asked.0 asked.1 (prices_of rows asked.0.pipeline) a
 ChecksBest rows (Err f) a = a ≡ fault_answer f
 
--- No schedule is allowed, since more must leave the set than can, and how much more is told, with status 0. Or the set is no cut, which is told with status 1.
+-- the set is a cut by so much, so no schedule is allowed
+abbrev pub IsShownCut : Posed → Members → ℕ → Type 0
+IsShownCut q m more =
+    Cuts q m × (pos more ≡ excess q.asked (side_of q.pipeline m)) × ((schedule : List ℕ) → ¬ (IsAllowed q.asked schedule))
+
+-- No schedule is allowed, since more must leave the set than can, and how much more is told, with status 0. Or the set is
+-- no cut, which is told with status 1.
 abbrev pub ChecksSet : Posed → Members → Told → Type 0
 ChecksSet q m a =
-    ((excess_of : ℕ) × Cuts q m × (pos excess_of ≡ excess q.asked (side_of q.pipeline m)) × ((schedule : List ℕ) → ¬ (IsAllowed q.asked schedule)) × (a ≡ record { replies = reply.Cut excess_of ∷ []; status = 0 }))
+    ((more : ℕ) × IsShownCut q m more × (a ≡ one (reply.Cut more) 0))
     ⊎ ((fault : CutFault) × ExplainsCut q m fault × (a ≡ refused (cut_fault_reply fault)))
 
 -- the set that the rows name is checked, or the first refusal is told
@@ -93,19 +113,22 @@ abbrev pub ChecksMembers : Posed → Result Members TextFault → Told → Type 
 ChecksMembers q (Ok m) a = ChecksSet q m a
 ChecksMembers q (Err f) a = a ≡ fault_answer f
 
-abbrev pub ChecksCut : List Row → Result (Posed × List ℕ) TextFault → Told → Type 0
-ChecksCut rows (Ok asked) a = ChecksMembers asked.0 (members_of rows asked.0.pipeline) a
+abbrev pub ChecksCut : List Row → Result Posed TextFault → Told → Type 0
+ChecksCut rows (Ok q) a = ChecksMembers q (members_of rows q.pipeline) a
 ChecksCut rows (Err f) a = a ≡ fault_answer f
 
--- A schedule that is best, since the prices are right, is told with the prices, with status 0. Or a cut is told, with status 1: no schedule is allowed, since more must leave the set than can.
+-- A schedule that is best, since the prices are right, is told with the prices, with status 0. Or a cut is told, with
+-- status 1: no schedule is allowed, since more must leave the set than can.
 abbrev pub Solves : Posed → Told → Type 0
 Solves q a =
-    ((schedule : List ℕ) × (prices : List ((ℕ → ℤ) × (ℕ → ℤ))) × IsAllowed q.asked schedule × IsPricedByTariff q.asked schedule prices × IsBest q.asked schedule × (a ≡ record { replies = solved_rows q schedule prices; status = 0 }))
-    ⊎ ((cut : Members) × (excess_of : ℕ) × IsShaped q.pipeline cut × Cuts q cut × (pos excess_of ≡ excess q.asked (side_of q.pipeline cut)) × ((schedule : List ℕ) → ¬ (IsAllowed q.asked schedule)) × (a ≡ record { replies = cut_rows q.pipeline cut excess_of; status = 1 }))
+    ((schedule : List ℕ) × (prices : List ((ℕ → ℤ) × (ℕ → ℤ))) × IsShownBest q schedule prices
+    × (a ≡ record { replies = solved_rows q schedule prices; status = 0 }))
+    ⊎ ((cut : Members) × (more : ℕ) × IsShaped q.pipeline cut × IsShownCut q cut more
+    × (a ≡ record { replies = cut_rows q.pipeline cut more; status = 1 }))
 
 -- what is asked is solved, or the first refusal is told
-abbrev pub SolvesAsked : Result (Posed × List ℕ) TextFault → Told → Type 0
-SolvesAsked (Ok asked) a = Solves asked.0 a
+abbrev pub SolvesAsked : Result Posed TextFault → Told → Type 0
+SolvesAsked (Ok q) a = Solves q a
 SolvesAsked (Err f) a = a ≡ fault_answer f
 
 -- The zone's calendar of a gas day is told, with status 0; or there is none.
@@ -125,10 +148,10 @@ TellsDay day text a =
 abbrev pub TellsDate : YearMonthDay → List ℕ → Told → Type 0
 TellsDate date text a = (day : Date) × IsYmd (pos date.year) (pos date.month) (pos date.day) day × TellsDay day text a
 
--- the calendar of a text's gas day is told; a text without one is told at the row past its last
-abbrev pub TellsCalendar : ℕ → Option (YearMonthDay × List ℕ) → Told → Type 0
-TellsCalendar end (Some asked) a = TellsDate asked.0 asked.1 a
-TellsCalendar end None a = a ≡ fault_answer (fault.Row end cause.Missing)
+-- the calendar of a text's gas day is told, or that the text has none
+abbrev pub TellsCalendar : Result (YearMonthDay × List ℕ) TextFault → Told → Type 0
+TellsCalendar (Ok asked) a = TellsDate asked.0 asked.1 a
+TellsCalendar (Err f) a = a ≡ fault_answer f
 
 -- how a command's text is read
 abbrev pub form_of : Command → Form
@@ -142,14 +165,14 @@ form_of command.Calendar = form.Calendar
 abbrev pub AnswersRows : Command → List Row → Told → Type 0
 AnswersRows command.CheckAllowed rows a = ChecksAsked (asked_of rows) a
 AnswersRows command.CheckBest rows a = ChecksBest rows (asked_of rows) a
-AnswersRows command.CheckCut rows a = ChecksCut rows (asked_of rows) a
-AnswersRows command.Solve rows a = SolvesAsked (asked_of rows) a
-AnswersRows command.Calendar rows a = TellsCalendar (length rows + 1) (day_of rows) a
+AnswersRows command.CheckCut rows a = ChecksCut rows (question_of rows) a
+AnswersRows command.Solve rows a = SolvesAsked (question_of rows) a
+AnswersRows command.Calendar rows a = TellsCalendar (day_of rows) a
 
 -- the rows are answered, or the first fault is told
 abbrev pub AnswersText : Command → Result (List Row) RowFault → Told → Type 0
 AnswersText k (Ok rows) a = AnswersRows k rows a
-AnswersText k (Err f) a = a ≡ fault_answer (fault.Row f.row f.cause)
+AnswersText k (Err f) a = a ≡ fault_answer (told_at f)
 
 -- What a command answers to a text in memory: what its rows say, where it is within its limits, or that it is too long.
 abbrev pub AnswersBytes : Command → List ℕ → Told → Type 0
@@ -157,7 +180,8 @@ AnswersBytes k text a =
     (IsWithin text × AnswersText k (rows_of (form_of k) text) a)
     ⊎ (IsTooLong text × (a ≡ fault_answer fault.TooLong))
 
--- What a command may answer to a text: what its rows say, where it is within its limits; that it is too long, where it is; or that it could not be read.
+-- What a command may answer to a text: what its rows say, where it is within its limits; that it is too long, where it is;
+-- or that it could not be read.
 abbrev pub MayAnswer : Command → List ℕ → Told → Type 0
 MayAnswer k text a =
     (IsWithin text × AnswersText k (rows_of (form_of k) text) a)

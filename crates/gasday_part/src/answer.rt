@@ -1,16 +1,17 @@
 //! What a command answers to a text.
 
 ghost use Rattle.std.specs.Prelude.{◌≡◌, [], ◌∷◌, IfOk, IfSome};
+ghost use Rattle.gd_text.specs.Values.{asked_of as asked_by};
 ghost use Rattle.gasday_part.specs.Answers as spec;
 ghost use Rattle.gasday_part.specs.AnswerSeen.{answer_seen};
-ghost use Rattle.gd_text_part.specs.declared.fault.TextFault.TheVariants.{OutOfMemory};
 
 use crate::certificate::{tell_best, tell_cut};
 use crate::command::Command;
-use crate::day::tell_day;
+use crate::day::tell_calendar;
 use crate::solve::tell_solved;
-use gd_text::{Asked, InputFault, Reply, allowed_replies, asked_of, broken_reply, day_of};
-use gd_text_part::{Cause, Row, TextFault, read_bytes, rows_in};
+use gd_replies::{Reply, allowed_replies, broken_reply};
+use gd_text::{Asked, asked_of};
+use gd_text_part::{Row, TextFault, read_bytes, rows_in};
 use std::alloc::{AllocError, Global};
 use std::io::Read;
 
@@ -34,23 +35,7 @@ pub(crate) fn of_one(alloc: Global, reply: Reply, status: u8) -> Result<Answer, 
 pub(crate) fn of_fault(alloc: Global, fault: TextFault) -> Result<Answer, AllocError>
     ensures { IfOk result (λ a. answer_seen a ≡ spec.fault_answer fault) }
 {
-    let reply = match fault {
-        TextFault::ReadFailed => Reply::InputFault(InputFault::ReadFailed),
-        TextFault::TooLong => Reply::InputFault(InputFault::TooLong),
-        TextFault::Row { row, cause } => Reply::RowFault(row, cause),
-        TextFault::OutOfMemory => Reply::InputFault(InputFault::OutOfMemory),
-    };
-    of_one(alloc, reply, 2)
-}
-
-/// The head of a text is missing, which is told at one row past the last.
-fn missing(row: u64) -> TextFault
-    ensures { result ≡ TextFault.Row row Cause.Missing }
-{
-    TextFault::Row {
-        row,
-        cause: Cause::Missing,
-    }
+    of_one(alloc, Reply::Fault(fault), 2)
 }
 
 /// Whether the schedule is allowed, with its class totals, or what is first wrong with it.
@@ -62,10 +47,21 @@ fn check_allowed(alloc: Global, asked: &Asked) -> Result<Answer, AllocError>
             let replies = allowed_replies(alloc, &asked.question, &asked.schedule)?;
             Ok(Answer { replies, status: 0 })
         }
-        Err(broken) => match broken_reply(&asked.question, &asked.schedule, broken) {
-            Some(reply) => of_one(alloc, reply, 1),
-            None => Err(AllocError),
-        },
+        Err(broken) => {
+            let reply = broken_reply(&asked.question, &asked.schedule, broken)?;
+            of_one(alloc, reply, 1)
+        }
+    }
+}
+
+/// Whether the schedule of the rows is allowed.
+fn tell_allowed(alloc: Global, rows: &[Row]) -> Result<Answer, AllocError>
+    ensures { IfOk result (λ a. spec.ChecksAsked (asked_by rows.now) (answer_seen a)) }
+{
+    match asked_of(alloc, rows) {
+        Ok(asked) => check_allowed(alloc, &asked),
+        Err(TextFault::OutOfMemory) => Err(AllocError),
+        Err(fault) => of_fault(alloc, fault),
     }
 }
 
@@ -73,22 +69,12 @@ fn check_allowed(alloc: Global, asked: &Asked) -> Result<Answer, AllocError>
 fn answer_to_rows(alloc: Global, command: Command, rows: &[Row]) -> Result<Answer, AllocError>
     ensures { IfOk result (λ a. spec.AnswersRows command rows.now (answer_seen a)) }
 {
-    if let Command::Calendar = command {
-        return match day_of(rows) {
-            Some(asked) => tell_day(alloc, asked.0, asked.1),
-            None => of_fault(alloc, missing(rows.len() as u64 + 1)),
-        };
-    }
-    let asked = match asked_of(alloc, rows) {
-        Ok(asked) => asked,
-        Err(TextFault::OutOfMemory) => return Err(AllocError),
-        Err(fault) => return of_fault(alloc, fault),
-    };
     match command {
-        Command::CheckBest => tell_best(alloc, &asked, rows),
-        Command::CheckCut => tell_cut(alloc, &asked.question, rows),
-        Command::Solve => tell_solved(alloc, &asked.question),
-        _ => check_allowed(alloc, &asked),
+        Command::CheckAllowed => tell_allowed(alloc, rows),
+        Command::CheckBest => tell_best(alloc, rows),
+        Command::CheckCut => tell_cut(alloc, rows),
+        Command::Solve => tell_solved(alloc, rows),
+        Command::Calendar => tell_calendar(alloc, rows),
     }
 }
 

@@ -2,13 +2,15 @@
 
 ghost use Rattle.std.specs.Prelude.{IfOk};
 ghost use Rattle.jiff.specs.Words.{plain_zone};
+ghost use Rattle.gd_text.specs.Days.{day_of as day_by};
 ghost use Rattle.gasday_part.specs.Answers as spec;
 ghost use Rattle.gasday_part.specs.AnswerSeen.{answer_seen};
 
-use crate::answer::{Answer, of_one};
+use crate::answer::{Answer, of_fault, of_one};
 use gd_calendar::{Calendar, CalendarFault, GasDay};
-use gd_text::{Reply, calendar_replies};
-use gd_text_part::{CivilDate, ZoneText};
+use gd_replies::{Reply, calendar_replies};
+use gd_text::day_of;
+use gd_text_part::{CivilDate, Row, ZoneText};
 use jiff::tz::TimeZone;
 use std::alloc::{AllocError, Global};
 
@@ -27,11 +29,7 @@ fn tell_zone(alloc: Global, day: GasDay, zone: &TimeZone<'_>) -> Result<Answer, 
 }
 
 /// The calendar of the gas day of a date, in the zone that a text gives.
-pub(crate) fn tell_day(
-    alloc: Global,
-    date: CivilDate,
-    zone: &ZoneText,
-) -> Result<Answer, AllocError>
+fn tell_day(alloc: Global, date: CivilDate, zone: &ZoneText) -> Result<Answer, AllocError>
     ensures { IfOk result (λ a. spec.TellsDate date zone.now (answer_seen a)) }
 {
     let Ok(day) = GasDay::new(date.date()) else {
@@ -40,5 +38,15 @@ pub(crate) fn tell_day(
     match TimeZone::posix(zone.as_str()) {
         Ok(zone) => tell_zone(alloc, day, &zone),
         Err(_) => of_one(alloc, Reply::BadZone, 1),
+    }
+}
+
+/// The calendar of the gas day that the rows ask about.
+pub(crate) fn tell_calendar(alloc: Global, rows: &[Row]) -> Result<Answer, AllocError>
+    ensures { IfOk result (λ a. spec.TellsCalendar (day_by rows.now) (answer_seen a)) }
+{
+    match day_of(rows) {
+        Ok((date, zone)) => tell_day(alloc, date, zone),
+        Err(fault) => of_fault(alloc, fault),
     }
 }

@@ -2,12 +2,12 @@
 
 ghost use Rattle.std.specs.Prelude.{◌≡◌, ◌≤◌, ℕ, [], ◌∷◌, IfSome, length, take};
 ghost use Rattle.std.specs.Io.KnownBytes.{Appends};
-ghost use Rattle.gd_text.specs.Lines.{lines_of};
+ghost use Rattle.gd_replies.specs.Lines.{lines_of};
 ghost use Rattle.gasday_part.specs.Written.{Answers, Written, no_memory};
 
 use crate::answer::answer_to;
 use crate::command::Command;
-use gd_text::Reply;
+use gd_replies::Reply;
 use gd_text_part::write_bytes;
 use std::alloc::Global;
 use std::io::{Read, Write};
@@ -29,7 +29,8 @@ fn tell<W: Write>(alloc: Global, writer: &mut W, replies: &[Reply], status: u8) 
 
 /// Tells that memory ran out, which needs none.
 fn tell_no_memory<W: Write>(writer: &mut W) -> u8
-    ensures front { (n : ℕ) × (n ≤ length (lines_of (no_memory ∷ []))) × Appends (W.contents writer.old) (W.contents writer.new) (take n (lines_of (no_memory ∷ []))) }
+    ensures front { (n : ℕ) × (n ≤ length (lines_of (no_memory ∷ [])))
+        × Appends (W.contents writer.old) (W.contents writer.new) (take n (lines_of (no_memory ∷ []))) }
     ensures status { result ≡ 2 }
 {
     let _ = write_bytes(writer, b"fault,0,OutOfMemory,,,,,\n");

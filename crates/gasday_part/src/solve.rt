@@ -6,16 +6,19 @@ ghost use Rattle.gd_rules.specs.Spread.{IsBest};
 ghost use Rattle.gd_rules.specs.Tariff.{IsPricedByTariff};
 ghost use Rattle.gd_cost.specs.Parts.{class_words};
 ghost use Rattle.gd_certificate.specs.Cutting.{IsShaped, Cuts};
+ghost use Rattle.gd_text.specs.Values.{question_of as question_by};
 ghost use Rattle.gasday_part.specs.Answers as spec;
 ghost use Rattle.gasday_part.specs.AnswerSeen.{answer_seen};
 
-use crate::answer::Answer;
+use crate::answer::{Answer, of_fault};
 use gd_certificate::{Cut, CutFault, Prices, check_cut};
 use gd_cost::Tariff;
 use gd_question::Question;
+use gd_replies::{cut_replies, solved_replies};
 use gd_schedule::Schedule;
 use gd_solver::{Answer as Solution, solve};
-use gd_text::{cut_replies, solved_replies};
+use gd_text::question_of;
+use gd_text_part::{Row, TextFault};
 use std::alloc::{AllocError, Global};
 
 /// A best schedule, with the prices that show it best.
@@ -51,11 +54,22 @@ fn tell_impossible(alloc: Global, question: &Question, cut: &Cut) -> Result<Answ
 }
 
 /// A best schedule of a question with its prices, or a cut where no schedule is allowed.
-pub(crate) fn tell_solved(alloc: Global, question: &Question) -> Result<Answer, AllocError>
+fn tell_solution(alloc: Global, question: &Question) -> Result<Answer, AllocError>
     ensures { IfOk result (λ a. spec.Solves question.now (answer_seen a)) }
 {
     match solve(alloc, question)? {
         Solution::Best(schedule, prices) => tell_schedule(alloc, question, &schedule, &prices),
         Solution::Impossible(cut) => tell_impossible(alloc, question, &cut),
+    }
+}
+
+/// What `tell_solution` tells of the question that the rows ask.
+pub(crate) fn tell_solved(alloc: Global, rows: &[Row]) -> Result<Answer, AllocError>
+    ensures { IfOk result (λ a. spec.SolvesAsked (question_by rows.now) (answer_seen a)) }
+{
+    match question_of(alloc, rows) {
+        Ok(question) => tell_solution(alloc, &question),
+        Err(TextFault::OutOfMemory) => Err(AllocError),
+        Err(fault) => of_fault(alloc, fault),
     }
 }

@@ -20,7 +20,8 @@ use gd_question::Question;
 use gd_schedule::Schedule;
 use gd_simplex::{Proposal, propose};
 use gd_solver::{Answer, solve_with};
-use gd_text::{Reply, asked_of, cut_replies, solved_replies};
+use gd_replies::{Reply, cut_replies, solved_replies};
+use gd_text::question_of;
 use gd_text_part::{Form, TextFault, read_all, write_bytes};
 use gd_units::Dth;
 use std::alloc::{AllocError, Global};
@@ -152,8 +153,8 @@ fn trial(alloc: Global, mode: Mode, question: &Question) -> Result<Told, AllocEr
 /// What is told of the question that a reader gives.
 fn trial_of<R: Read>(alloc: Global, mode: Mode, reader: &mut R) -> Result<Told, TextFault> {
     let rows = read_all(alloc, Form::Solve, reader)?;
-    let asked = asked_of(alloc, &rows)?;
-    Ok(trial(alloc, mode, &asked.question)?)
+    let question = question_of(alloc, &rows)?;
+    Ok(trial(alloc, mode, &question)?)
 }
 
 /// Writes what is told of the question that a reader gives, and answers the exit status.

@@ -10,6 +10,7 @@ use Rattle.std.proofs.lemmas.Bool.{eq-eqb, ne_eqb}
 use Rattle.gd_text_part.specs.declared.fault.TextFault.TheVariants as fault
 use Rattle.gd_text_part.specs.declared.fault.Cause.TheVariants as cause
 use Rattle.gd_system.specs.Pipeline.{Pipeline}
+use Rattle.gd_system.specs.declared.BuildFault.TheVariants as build
 use Rattle.gd_text.specs.Values.{finished}
 use Rattle.gd_text.specs.Building.{built_from}
 
@@ -48,11 +49,11 @@ module _ {X : Type 0} (step : ℕ → X → Row → Result X TextFault) where
 pub finished_yes : (n : ℕ) (p : Pipeline) → 0 < length p.tree → finished n p ≡ Ok p
 finished_yes n p h = choose (length p.tree == 0) (ne_eqb (length p.tree) 0 (λ e. omega arith))
   where
-    choose : (b : Bool) → b ≡ false → (if b then Err (fault.Row n cause.NoSegment) else Ok p) ≡ Ok p
+    choose : (b : Bool) → b ≡ false → (if b then Err (fault.Row n (cause.Build build.NoSegment)) else Ok p) ≡ Ok p
     choose b e = rw e refl
 
-pub finished_no : (n : ℕ) (p : Pipeline) → length p.tree ≡ 0 → finished n p ≡ Err (fault.Row n cause.NoSegment)
+pub finished_no : (n : ℕ) (p : Pipeline) → length p.tree ≡ 0 → finished n p ≡ Err (fault.Row n (cause.Build build.NoSegment))
 finished_no n p h = choose (length p.tree == 0) (eq-eqb (length p.tree) 0 h)
   where
-    choose : (b : Bool) → b ≡ true → (if b then Err (fault.Row n cause.NoSegment) else Ok p) ≡ Err (fault.Row n cause.NoSegment)
+    choose : (b : Bool) → b ≡ true → (if b then Err (fault.Row n (cause.Build build.NoSegment)) else Ok p) ≡ Err (fault.Row n (cause.Build build.NoSegment))
     choose b e = rw e refl

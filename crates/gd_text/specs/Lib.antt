@@ -1,7 +1,5 @@
 pub mod Building
 pub mod Values
-pub mod Calendars
-pub mod Lines
+pub mod Days
 pub mod Members
 pub mod Prices
-pub mod Replies

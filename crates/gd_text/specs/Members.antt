@@ -1,5 +1,6 @@
 -- The set that the `inside` rows of a text name.
-use Rattle.std.specs.Prelude.{ℕ, ◌+◌, ◌-◌, ◌&&◌, nat_le, nat_lt, true, false, List, length, set, replicate, Option, Some, None, Result, Ok, Err, if◌then◌else◌}
+use Rattle.std.specs.Prelude.{ℕ, ◌+◌, ◌-◌, ◌&&◌, nat_le, nat_lt, true, false, if◌then◌else◌}
+use Rattle.std.specs.Prelude.{List, length, set, replicate, Option, Some, None, Result, Ok, Err}
 use Rattle.gd_system.specs.Pipeline.{Pipeline, number_of, element_number}
 use Rattle.gd_certificate.specs.Cutting.{Members, IsShaped}
 use Rattle.gd_text_part.specs.declared.fault.Cause.TheVariants as cause
@@ -13,7 +14,11 @@ use Rattle.gd_text.specs.Building.{built_from}
 
 -- Nothing is inside.
 abbrev pub none_inside : Pipeline → Members
-none_inside p = record { places = replicate (length p.places) false; points = replicate (length p.points) false; pools = replicate (length p.pools) false }
+none_inside p = record {
+  places = replicate (length p.places) false;
+  points = replicate (length p.points) false;
+  pools = replicate (length p.pools) false;
+}
 
 -- There is one entry for each place, point and pool.
 abbrev pub IsFor : Pipeline → Members → Type 0
@@ -28,14 +33,16 @@ with_place n m (Some k) = Ok (record m { places = set m.places k true })
 abbrev pub with_point : ℕ → Pipeline → Members → Option ℕ → Result Members TextFault
 with_point n p m None = Err (fault.Row n cause.UnknownElement)
 with_point n p m (Some e) =
-    if nat_le (length p.tree) e && nat_lt e (length p.tree + length p.points) then Ok (record m { points = set m.points (e - length p.tree) true })
+    if nat_le (length p.tree) e && nat_lt e (length p.tree + length p.points)
+    then Ok (record m { points = set m.points (e - length p.tree) true })
     else Err (fault.Row n cause.UnknownElement)
 
 -- The set with the pool of this element number, where it is one: pools stand last.
 abbrev pub with_pool : ℕ → Pipeline → Members → Option ℕ → Result Members TextFault
 with_pool n p m None = Err (fault.Row n cause.UnknownElement)
 with_pool n p m (Some e) =
-    if nat_le (length p.tree + length p.points) e then Ok (record m { pools = set m.pools (e - (length p.tree + length p.points)) true })
+    if nat_le (length p.tree + length p.points) e
+    then Ok (record m { pools = set m.pools (e - (length p.tree + length p.points)) true })
     else Err (fault.Row n cause.UnknownElement)
 
 abbrev pub with_member : ℕ → Pipeline → Members → Member → List ℕ → Result Members TextFault

@@ -1,5 +1,7 @@
 -- The prices that the `price` rows of a text give.
-use Rattle.std.specs.Prelude.{◌≡◌, ℕ, ◌+◌, ◌-◌, ◌*◌, ℤ, pos, Bool, true, false, List, [], ◌∷◌, length, set, replicate, slice_get, get_or, Option, Some, None, Result, Ok, Err, if◌then◌else◌}
+use Rattle.std.specs.Prelude.{◌≡◌, ℕ, ◌+◌, ◌-◌, ◌*◌, ℤ, pos, Bool, true, false, if◌then◌else◌}
+use Rattle.std.specs.Prelude.{List, [], ◌∷◌, length, set, replicate, slice_get, get_or, Option, Some, None, Result, Ok, Err}
+use Rattle.gd_rules.specs.Limits.{classes}
 use Rattle.gd_cost.specs.Parts.{list_of, first_of, second_of}
 use Rattle.gd_cost.specs.declared.lex.Lex.{Lex}
 use Rattle.gd_cost.specs.declared.pair.Pair.{Pair}
@@ -20,17 +22,26 @@ pub record Table : Type 0 where
 
 -- Words that no row gives are 0.
 abbrev pub no_prices : ℕ → Table
-no_prices n = record { elements = n; words = replicate (8 * n) (pos 0); spreads = replicate (8 * n) (pos 0); given = replicate (8 * n) false }
+no_prices n = record {
+  elements = n;
+  words = replicate (classes * n) (pos 0);
+  spreads = replicate (classes * n) (pos 0);
+  given = replicate (classes * n) false;
+}
 
 -- Where the words of an element at a class stand.
 abbrev pub place : ℕ → ℕ → ℕ
-place e class = 8 * e + (class - 1)
+place e class = classes * e + (class - 1)
 
 -- The table after the words of an element at a class are given, or a refusal where they are there.
 abbrev pub given_at : ℕ → Table → ℕ → ℕ → ℤ → ℤ → Result Table TextFault
 given_at n t e class word spread =
     if get_or t.given (place e class) false then Err (fault.Row n cause.Duplicate)
-    else Ok (record t { words = set t.words (place e class) word; spreads = set t.spreads (place e class) spread; given = set t.given (place e class) true })
+    else Ok (record t {
+      words = set t.words (place e class) word;
+      spreads = set t.spreads (place e class) spread;
+      given = set t.given (place e class) true;
+    })
 
 abbrev pub price_at : ℕ → Table → Option ℕ → ℕ → ℤ → ℤ → Result Table TextFault
 price_at n t None class word spread = Err (fault.Row n cause.UnknownElement)
@@ -47,12 +58,12 @@ prices_of rows p = built_from (price_step p) 1 (no_prices (length (elements_of p
 
 -- The word of an element at class k + 1.
 abbrev pub word_at : List ℤ → ℕ → ℕ → ℤ
-word_at words e k = get_or words (8 * e + k) (pos 0)
+word_at words e k = get_or words (classes * e + k) (pos 0)
 
 -- The eight words of an element.
 abbrev pub eight : List ℤ → ℕ → List ℤ
 eight words e =
-    get_or words (8 * e) (pos 0) ∷ word_at words e 1 ∷ word_at words e 2 ∷ word_at words e 3
+    get_or words (classes * e) (pos 0) ∷ word_at words e 1 ∷ word_at words e 2 ∷ word_at words e 3
     ∷ word_at words e 4 ∷ word_at words e 5 ∷ word_at words e 6 ∷ word_at words e 7 ∷ []
 
 -- The price of an element: its eight words, and its eight words of the spread.

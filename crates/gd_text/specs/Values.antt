@@ -11,51 +11,38 @@ use Rattle.gd_text_part.specs.declared.row.QuestionRow.TheVariants as question
 use Rattle.gd_system.specs.Pipeline.{Pipeline, empty, after_segment, after_point, after_pool, element_number}
 use Rattle.gd_system.specs.declared.BuildFault.{BuildFault}
 use Rattle.gd_system.specs.declared.BuildFault.TheVariants as build
-use Rattle.gd_system.specs.declared.RouteFault.{RouteFault}
 use Rattle.gd_system.specs.declared.RouteFault.TheVariants as route
 use Rattle.gd_question.specs.Posed.{Posed, posed, after_capacity, after_line}
 use Rattle.gd_question.specs.declared.fault.CapacityFault.{CapacityFault}
 use Rattle.gd_question.specs.declared.fault.CapacityFault.TheVariants as capacity
 use Rattle.gd_question.specs.declared.fault.LineFault.{LineFault}
 use Rattle.gd_question.specs.declared.fault.LineFault.TheVariants as line
-use Rattle.gd_text.specs.Building.{built_from, told}
+use Rattle.gd_text_part.specs.Places.{missing_head}
+use Rattle.gd_text.specs.Building.{built_from, told, told_at}
 
--- A refusal is told at its row, by its name.
+-- A refusal is told at its row, and want of memory as such.
 abbrev pub build_told : ℕ → BuildFault → TextFault
-build_told n build.Duplicate = fault.Row n cause.Duplicate
-build_told n build.Unjoined = fault.Row n cause.Unjoined
-build_told n build.UnknownPlace = fault.Row n cause.UnknownPlace
-build_told n build.TooMany = fault.Row n cause.TooMany
-build_told n build.NoSegment = fault.Row n cause.NoSegment
 build_told n build.OutOfMemory = fault.OutOfMemory
-
-abbrev pub route_told : ℕ → RouteFault → TextFault
-route_told n route.UnknownEnd = fault.Row n cause.UnknownEnd
-route_told n route.WrongEnd = fault.Row n cause.WrongEnd
-route_told n route.SameEnd = fault.Row n cause.SameEnd
-route_told n route.NoRoute = fault.Row n cause.NoRoute
-route_told n route.OutOfMemory = fault.OutOfMemory
+build_told n f = fault.Row n (cause.Build f)
 
 abbrev pub line_told : ℕ → LineFault → TextFault
-line_told n (line.Route f) = route_told n f
-line_told n line.FloorAboveCeiling = fault.Row n cause.FloorAboveCeiling
-line_told n line.BadClass = fault.Row n cause.BadClass
-line_told n line.TooMany = fault.Row n cause.TooMany
 line_told n line.OutOfMemory = fault.OutOfMemory
+line_told n (line.Route route.OutOfMemory) = fault.OutOfMemory
+line_told n f = fault.Row n (cause.Line f)
 
 abbrev pub capacity_told : ℕ → CapacityFault → TextFault
-capacity_told n capacity.UnknownElement = fault.Row n cause.UnknownElement
-capacity_told n capacity.IsPool = fault.Row n cause.IsPool
+capacity_told n f = fault.Row n (cause.Capacity f)
 
 -- The pipeline after row n: a segment, point or pool is added to it, and other rows say nothing of it.
 abbrev pub pipeline_step : ℕ → Pipeline → Row → Result Pipeline TextFault
 pipeline_step n p (row.Pipeline (pipeline.Segment name from to limit)) = told (build_told n) (after_segment p name from to limit)
-pipeline_step n p (row.Pipeline (pipeline.Point name kind place operator limit)) = told (build_told n) (after_point p name kind place operator limit)
+pipeline_step n p (row.Pipeline (pipeline.Point name kind place operator limit)) =
+    told (build_told n) (after_point p name kind place operator limit)
 pipeline_step n p (row.Pipeline (pipeline.Pool name place operator)) = told (build_told n) (after_pool p name place operator)
 pipeline_step n p r = Ok p
 
 abbrev pub finished : ℕ → Pipeline → Result Pipeline TextFault
-finished n p = if length p.tree == 0 then Err (fault.Row n cause.NoSegment) else Ok p
+finished n p = if length p.tree == 0 then Err (fault.Row n (cause.Build build.NoSegment)) else Ok p
 
 -- The pipeline of all rows. Without a segment it is refused, at one row past the last.
 abbrev pub pipeline_of : List Row → Result Pipeline TextFault
@@ -73,17 +60,23 @@ capacity_at n q (Some e) limit = told (capacity_told n) (after_capacity q e limi
 
 -- The question after row n: a capacity is set, a line is added, and other rows say nothing of it.
 abbrev pub question_step : ℕ → Posed → Row → Result Posed TextFault
-question_step n q (row.Question (question.Capacity element limit)) = capacity_at n q (element_number q.pipeline element) limit
-question_step n q (row.Question (question.Line origin dest class floor ceiling)) = told (line_told n) (after_line q origin dest class floor ceiling)
+question_step n q (row.Question (question.Capacity element limit)) =
+    capacity_at n q (element_number q.pipeline element) limit
+question_step n q (row.Question (question.Line origin dest class floor ceiling)) =
+    told (line_told n) (after_line q origin dest class floor ceiling)
 question_step n q r = Ok q
 
 abbrev pub question_under : List Row → Pipeline → Option (List ℕ × ℕ × ℕ) → Result Posed TextFault
-question_under rows p None = Err (fault.Row (length rows + 1) cause.Missing)
+question_under rows p None = Err (told_at (missing_head (length rows)))
 question_under rows p (Some head) = built_from question_step 1 (posed p head.0 head.1 head.2) rows
 
 -- The question of all rows about a pipeline.
-abbrev pub question_of : List Row → Pipeline → Result Posed TextFault
-question_of rows p = question_under rows p (head_of rows)
+abbrev pub question_about : List Row → Pipeline → Result Posed TextFault
+question_about rows p = question_under rows p (head_of rows)
+
+-- The question of a text, or the first refusal.
+abbrev pub question_of : List Row → Result Posed TextFault
+question_of rows = pipeline_of rows >>= question_about rows
 
 -- The quantities of the `sched` rows, in order.
 abbrev pub quantities_of : List Row → List ℕ
@@ -96,4 +89,4 @@ with_schedule rows q = Ok (q, quantities_of rows)
 
 -- The question of a text and the schedule that it offers, or the first refusal.
 abbrev pub asked_of : List Row → Result (Posed × List ℕ) TextFault
-asked_of rows = (pipeline_of rows >>= question_of rows) >>= with_schedule rows
+asked_of rows = question_of rows >>= with_schedule rows

@@ -1,7 +1,7 @@
 //! The set of a cut that a text offers.
 
-ghost use Rattle.std.specs.Prelude.{◌≡◌, Ok, Err, IfOk, MatchResult};
-ghost use Rattle.gd_text.specs.Building.{Builds};
+ghost use Rattle.std.specs.Prelude.{◌≡◌, IfOk, OnOk};
+ghost use Rattle.gd_text.specs.Building.{Becomes, Builds};
 ghost use Rattle.gd_text.specs.Members as spec;
 
 use gd_certificate::Cut;
@@ -30,10 +30,7 @@ impl Model for MemberTable {
 fn unknown(row: u64) -> TextFault
     ensures { result ≡ TextFault.Row row Cause.UnknownElement }
 {
-    TextFault::Row {
-        row,
-        cause: Cause::UnknownElement,
-    }
+    TextFault::at(row, Cause::UnknownElement)
 }
 
 impl MemberTable {
@@ -57,7 +54,8 @@ impl MemberTable {
         name: Name,
     ) -> Result<(), TextFault>
         requires { spec.IsFor system.now self.old }
-        ensures { MatchResult result (λ _. (spec.with_member number system.now self.old member name ≡ Ok self.new) × spec.IsFor system.now self.new) (λ e. spec.with_member number system.now self.old member name ≡ Err e) }
+        ensures taken { Becomes self.new result (spec.with_member number system.now self.old member name) }
+        ensures shaped { OnOk result (spec.IsFor system.now self.new) }
     {
         system.known();
         match member {
@@ -112,7 +110,8 @@ fn add_member(
     row: &Row,
 ) -> Result<(), TextFault>
     requires { spec.IsFor system.now table.old }
-    ensures { MatchResult result (λ _. (spec.member_step system.now number table.old row.now ≡ Ok table.new) × spec.IsFor system.now table.new) (λ e. spec.member_step system.now number table.old row.now ≡ Err e) }
+    ensures taken { Becomes table.new result (spec.member_step system.now number table.old row.now) }
+    ensures shaped { OnOk result (spec.IsFor system.now table.new) }
 {
     match *row {
         Row::Inside { member, name } => table.take(system, number, member, name),
@@ -126,9 +125,7 @@ pub fn members_of(alloc: Global, rows: &[Row], system: &System) -> Result<Member
 {
     let mut table = MemberTable::new(alloc, system)?;
     'rows: for (index, row) in rows.iter().enumerate() {
-        if let Err(fault) = add_member(&mut table, system, index as u64 + 1, row) {
-            return Err(fault);
-        }
+        add_member(&mut table, system, index as u64 + 1, row)?;
     }
     Ok(table)
 }

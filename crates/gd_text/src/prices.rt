@@ -1,11 +1,12 @@
 //! The prices that a text offers.
 
-ghost use Rattle.std.specs.Prelude.{◌≡◌, ◌≤◌, ◌<◌, ◌+◌, ◌*◌, pos, get_or, length, Ok, Err, IfOk, MatchResult};
+ghost use Rattle.std.specs.Prelude.{◌≡◌, ◌≤◌, ◌<◌, ◌+◌, ◌*◌, pos, get_or, length, IfOk};
 ghost use Rattle.std.specs.Prelude.{FitsSigned};
 ghost use Rattle.std.specs.Int.{w128};
+ghost use Rattle.gd_rules.specs.Limits.{classes, most_elements};
 ghost use Rattle.gd_cost.specs.Parts.{list_of};
 ghost use Rattle.gd_system.specs.Pipeline.{elements_of};
-ghost use Rattle.gd_text.specs.Building.{Builds};
+ghost use Rattle.gd_text.specs.Building.{Becomes, Builds};
 ghost use Rattle.gd_text.specs.Prices as spec;
 
 use gd_certificate::Prices;
@@ -16,7 +17,7 @@ use gd_units::Class;
 use std::alloc::{AllocError, Global};
 use std::marker::Model;
 
-/// The words of prices, eight for each element, and which of them were given.
+/// The words of prices, one at each class for each element, and which of them were given.
 #[derive(Drop)]
 pub struct PriceTable {
     elements: usize,
@@ -27,13 +28,15 @@ pub struct PriceTable {
 
 impl Model for PriceTable {
     ghost use Rattle.std.specs.Prelude.{◌≡◌, ◌≤◌, ◌*◌, length};
+    ghost use Rattle.gd_rules.specs.Limits.{classes, most_elements};
     ghost use Rattle.gd_text.specs.Prices.{Table};
 
     ghost Value = { Table };
 
     ghost view = { λ t. record { elements = t.elements; words = t.words.items; spreads = t.spreads.items; given = t.given.items } };
 
-    ghost invariant = { λ t. (length t.words.items ≡ 8 * t.elements) × (length t.spreads.items ≡ 8 * t.elements) × (length t.given.items ≡ 8 * t.elements) × (t.elements ≤ 10_000) };
+    ghost invariant = { λ t. (length t.words.items ≡ classes * t.elements) × (length t.spreads.items ≡ classes * t.elements)
+        × (length t.given.items ≡ classes * t.elements) × (t.elements ≤ most_elements) };
 }
 
 /// The word at a place, as costs keep it.
@@ -47,10 +50,10 @@ fn word(words: &[i64], at: usize) -> i128
 
 /// The eight words of an element.
 fn eight(words: &[i64], element: usize) -> Lex<8>
-    requires { 8 * element + 8 ≤ length words.now }
+    requires { classes * element + classes ≤ length words.now }
     ensures { list_of result ≡ spec.eight words.now element }
 {
-    let from = 8 * element;
+    let from = Class::COUNT * element;
     Lex::of([
         word(words, from),
         word(words, from + 1),
@@ -66,12 +69,13 @@ fn eight(words: &[i64], element: usize) -> Lex<8>
 impl PriceTable {
     /// No price is given yet.
     fn new(alloc: Global, elements: usize) -> Result<PriceTable, AllocError>
-        requires { elements ≤ 10_000 }
+        requires { elements ≤ most_elements }
         ensures { IfOk result (λ table. table ≡ spec.no_prices elements) }
     {
-        let words = vec![in alloc; 0i64; 8 * elements]?;
-        let spreads = vec![in alloc; 0i64; 8 * elements]?;
-        let given = vec![in alloc; false; 8 * elements]?;
+        let count = Class::COUNT * elements;
+        let words = vec![in alloc; 0i64; count]?;
+        let spreads = vec![in alloc; 0i64; count]?;
+        let given = vec![in alloc; false; count]?;
         Ok(PriceTable {
             elements,
             words,
@@ -90,16 +94,13 @@ impl PriceTable {
         spread: i64,
     ) -> Result<(), TextFault>
         requires { element.0 < self.old.elements }
-        ensures given { MatchResult result (λ _. spec.given_at number self.old element.0 class word spread ≡ Ok self.new) (λ e. spec.given_at number self.old element.0 class word spread ≡ Err e) }
+        ensures given { Becomes self.new result (spec.given_at number self.old element.0 class word spread) }
         ensures sized { self.new.elements ≡ self.old.elements }
     {
         let given = &self.given;
-        let at = 8 * element.0 + (usize::from(class.number()) - 1);
+        let at = Class::COUNT * element.0 + (usize::from(class.number()) - 1);
         if given[at] {
-            return Err(TextFault::Row {
-                row: number,
-                cause: Cause::Duplicate,
-            });
+            return Err(TextFault::at(number, Cause::Duplicate));
         }
         self.words[at] = word;
         self.spreads[at] = spread;
@@ -135,7 +136,7 @@ fn add_price(
     row: &Row,
 ) -> Result<(), TextFault>
     requires { table.old.elements ≡ length (elements_of system.now) }
-    ensures given { MatchResult result (λ _. spec.price_step system.now number table.old row.now ≡ Ok table.new) (λ e. spec.price_step system.now number table.old row.now ≡ Err e) }
+    ensures given { Becomes table.new result (spec.price_step system.now number table.old row.now) }
     ensures sized { table.new.elements ≡ table.old.elements }
 {
     let Row::Price {
@@ -149,10 +150,7 @@ fn add_price(
     };
     match system.element(element) {
         Some(element) => table.give(number, element, class, word, spread),
-        None => Err(TextFault::Row {
-            row: number,
-            cause: Cause::UnknownElement,
-        }),
+        None => Err(TextFault::at(number, Cause::UnknownElement)),
     }
 }
 
@@ -164,9 +162,7 @@ pub fn prices_of(alloc: Global, rows: &[Row], system: &System) -> Result<PriceTa
     system.known();
     let mut table = PriceTable::new(alloc, system.element_count())?;
     'rows: for (index, row) in rows.iter().enumerate() {
-        if let Err(fault) = add_price(&mut table, system, index as u64 + 1, row) {
-            return Err(fault);
-        }
+        add_price(&mut table, system, index as u64 + 1, row)?;
     }
     Ok(table)
 }

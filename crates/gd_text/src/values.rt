@@ -1,14 +1,14 @@
 //! The question and the schedule that the rows of a text build.
 
 ghost use Rattle.std.specs.Prelude.{◌≡◌, ◌⊎◌, ◌+◌, ◌<◌, Ok, Err, Some, None, Option, IfOk, MatchResult};
-ghost use Rattle.gd_text.specs.Building.{Builds};
+ghost use Rattle.gd_text.specs.Building.{Becomes, Builds, MayBecome};
 ghost use Rattle.gd_system.specs.Pipeline.{element_number};
 ghost use Rattle.gd_text.specs.Values as spec;
 
-use gd_question::{CapacityFault, LineFault, Question, QuestionBuilder};
+use gd_question::{LineFault, Question, QuestionBuilder};
 use gd_schedule::Schedule;
 use gd_system::{BuildFault, RouteFault, System, SystemBuilder};
-use gd_text_part::{Cause, PipelineRow, QuestionRow, Row, TextFault};
+use gd_text_part::{Cause, PipelineRow, QuestionRow, Row, TextFault, missing_head};
 use gd_units::{CycleNo, Dth, Name, Round};
 use std::alloc::{AllocError, Global};
 
@@ -22,56 +22,26 @@ pub struct Asked {
 fn build_fault(row: u64, fault: BuildFault) -> TextFault
     ensures { result ≡ spec.build_told row fault }
 {
-    let cause = match fault {
-        BuildFault::Duplicate => Cause::Duplicate,
-        BuildFault::Unjoined => Cause::Unjoined,
-        BuildFault::UnknownPlace => Cause::UnknownPlace,
-        BuildFault::TooMany => Cause::TooMany,
-        BuildFault::NoSegment => Cause::NoSegment,
-        BuildFault::OutOfMemory => return TextFault::OutOfMemory,
-    };
-    TextFault::Row { row, cause }
-}
-
-fn route_fault(row: u64, fault: RouteFault) -> TextFault
-    ensures { result ≡ spec.route_told row fault }
-{
-    let cause = match fault {
-        RouteFault::UnknownEnd => Cause::UnknownEnd,
-        RouteFault::WrongEnd => Cause::WrongEnd,
-        RouteFault::SameEnd => Cause::SameEnd,
-        RouteFault::NoRoute => Cause::NoRoute,
-        RouteFault::OutOfMemory => return TextFault::OutOfMemory,
-    };
-    TextFault::Row { row, cause }
+    match fault {
+        BuildFault::OutOfMemory => TextFault::OutOfMemory,
+        fault => TextFault::at(row, Cause::Build(fault)),
+    }
 }
 
 fn line_fault(row: u64, fault: LineFault) -> TextFault
     ensures { result ≡ spec.line_told row fault }
 {
-    let cause = match fault {
-        LineFault::Route(fault) => return route_fault(row, fault),
-        LineFault::FloorAboveCeiling => Cause::FloorAboveCeiling,
-        LineFault::BadClass => Cause::BadClass,
-        LineFault::TooMany => Cause::TooMany,
-        LineFault::OutOfMemory => return TextFault::OutOfMemory,
-    };
-    TextFault::Row { row, cause }
-}
-
-fn capacity_fault(row: u64, fault: CapacityFault) -> TextFault
-    ensures { result ≡ spec.capacity_told row fault }
-{
-    let cause = match fault {
-        CapacityFault::UnknownElement => Cause::UnknownElement,
-        CapacityFault::IsPool => Cause::IsPool,
-    };
-    TextFault::Row { row, cause }
+    match fault {
+        LineFault::OutOfMemory | LineFault::Route(RouteFault::OutOfMemory) => {
+            TextFault::OutOfMemory
+        }
+        fault => TextFault::at(row, Cause::Line(fault)),
+    }
 }
 
 /// Adds the segment, point or pool of a row.
 fn add_part(builder: &mut SystemBuilder, number: u64, row: &Row) -> Result<(), TextFault>
-    ensures { MatchResult result (λ _. spec.pipeline_step number builder.old row.now ≡ Ok builder.new) (λ e. (e ≡ TextFault.OutOfMemory) ⊎ (spec.pipeline_step number builder.old row.now ≡ Err e)) }
+    ensures { MayBecome builder.new result (spec.pipeline_step number builder.old row.now) }
 {
     let Row::Pipeline(part) = row else {
         return Ok(());
@@ -108,16 +78,11 @@ fn system_of(alloc: Global, rows: &[Row]) -> Result<System, TextFault>
 {
     let mut builder = SystemBuilder::new(alloc);
     'rows: for (index, row) in rows.iter().enumerate() {
-        if let Err(fault) = add_part(&mut builder, index as u64 + 1, row) {
-            return Err(fault);
-        }
+        add_part(&mut builder, index as u64 + 1, row)?;
     }
     match builder.finish() {
         Ok(system) => Ok(system),
-        Err(_) => Err(TextFault::Row {
-            row: rows.len() as u64 + 1,
-            cause: Cause::NoSegment,
-        }),
+        Err((fault, _)) => Err(TextFault::at(rows.len() as u64 + 1, Cause::Build(fault))),
     }
 }
 
@@ -139,23 +104,21 @@ fn set_capacity(
     element: Name,
     capacity: Dth,
 ) -> Result<(), TextFault>
-    ensures { MatchResult result (λ _. spec.capacity_at number builder.old (element_number builder.old.pipeline element) capacity ≡ Ok builder.new) (λ e. spec.capacity_at number builder.old (element_number builder.old.pipeline element) capacity ≡ Err e) }
+    ensures { Becomes builder.new result
+        (spec.capacity_at number builder.old (element_number builder.old.pipeline element) capacity) }
 {
     let Some(element) = builder.system().element(element) else {
-        return Err(TextFault::Row {
-            row: number,
-            cause: Cause::UnknownElement,
-        });
+        return Err(TextFault::at(number, Cause::UnknownElement));
     };
     match builder.capacity(element, capacity) {
         Ok(()) => Ok(()),
-        Err(fault) => Err(capacity_fault(number, fault)),
+        Err(fault) => Err(TextFault::at(number, Cause::Capacity(fault))),
     }
 }
 
 /// Adds the line of a row, or sets its capacity.
 fn add_line(builder: &mut QuestionBuilder, number: u64, row: &Row) -> Result<(), TextFault>
-    ensures { MatchResult result (λ _. spec.question_step number builder.old row.now ≡ Ok builder.new) (λ e. (e ≡ TextFault.OutOfMemory) ⊎ (spec.question_step number builder.old row.now ≡ Err e)) }
+    ensures { MayBecome builder.new result (spec.question_step number builder.old row.now) }
 {
     let Row::Question(row) = row else {
         return Ok(());
@@ -179,20 +142,15 @@ fn add_line(builder: &mut QuestionBuilder, number: u64, row: &Row) -> Result<(),
 }
 
 /// The question that the rows ask about a system.
-fn question_of(alloc: Global, rows: &[Row], system: System) -> Result<Question, TextFault>
-    ensures { Builds (λ question. question) result (spec.question_of rows.now system) }
+fn question_about(alloc: Global, rows: &[Row], system: System) -> Result<Question, TextFault>
+    ensures { Builds (λ question. question) result (spec.question_about rows.now system) }
 {
     let Some(head) = head_of(rows) else {
-        return Err(TextFault::Row {
-            row: rows.len() as u64 + 1,
-            cause: Cause::Missing,
-        });
+        return Err(missing_head(rows.len() as u64).into());
     };
     let mut builder = QuestionBuilder::new(alloc, system, head.0, head.1, head.2)?;
     'rows: for (index, row) in rows.iter().enumerate() {
-        if let Err(fault) = add_line(&mut builder, index as u64 + 1, row) {
-            return Err(fault);
-        }
+        add_line(&mut builder, index as u64 + 1, row)?;
     }
     Ok(builder.finish())
 }
@@ -210,15 +168,20 @@ fn quantities_of(alloc: Global, rows: &[Row]) -> Result<Vec<Dth>, AllocError>
     Ok(quantities)
 }
 
-/// The question that a text asks and the schedule that it offers, or the first refusal of a builder, told at its row; a missing segment at one row past the last.
+/// The question that a text asks, or the first refusal of a builder, told at its row; a missing segment at one row past the
+/// last.
+pub fn question_of(alloc: Global, rows: &[Row]) -> Result<Question, TextFault>
+    ensures { Builds (λ question. question) result (spec.question_of rows.now) }
+{
+    let system = system_of(alloc, rows)?;
+    question_about(alloc, rows, system)
+}
+
+/// The question that a text asks, as `question_of` tells it, and the schedule that it offers.
 pub fn asked_of(alloc: Global, rows: &[Row]) -> Result<Asked, TextFault>
     ensures { Builds (λ a. (a.question, a.schedule)) result (spec.asked_of rows.now) }
 {
-    let system = system_of(alloc, rows)?;
-    let question = question_of(alloc, rows, system)?;
-    let Ok(quantities) = quantities_of(alloc, rows) else {
-        return Err(TextFault::OutOfMemory);
-    };
-    let schedule = Schedule::of(quantities);
+    let question = question_of(alloc, rows)?;
+    let schedule = Schedule::of(quantities_of(alloc, rows)?);
     Ok(Asked { question, schedule })
 }

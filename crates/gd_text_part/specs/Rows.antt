@@ -1,7 +1,9 @@
 -- What the fields of each kind of row are.
 use Rattle.std.specs.Str.{is_utf8}
-use Rattle.std.specs.Prelude.{ℕ, ℤ, pos, Bool, zero, suc, ◌+◌, ◌-◌, ◌==◌, ◌&&◌, nat_le, List, [], length, Option, Some, None, Result, Ok, Err, unwrap_or, codes, if◌then◌else◌}
+use Rattle.std.specs.Prelude.{ℕ, ℤ, pos, zero, suc, ◌+◌, ◌-◌, ◌==◌, ◌&&◌, nat_le, codes, if◌then◌else◌}
+use Rattle.std.specs.Prelude.{Bool, List, [], length, Option, Some, None, Result, Ok, Err, unwrap_or}
 use Rattle.csv.specs.Records.{field_at}
+use Rattle.gd_rules.specs.Limits.{most_dekatherms, cycles, most_rounds, classes}
 use Rattle.gd_units.specs.Names.{name_of}
 use Rattle.gd_units.specs.declared.name.NameFault.{NameFault}
 use Rattle.gd_units.specs.declared.service.Kind.{Kind}
@@ -11,6 +13,8 @@ use Rattle.gd_text_part.specs.Dates.{YearMonthDay, date_of}
 use Rattle.gd_text_part.specs.Kinds.{is_text}
 use Rattle.gd_text_part.specs.declared.fault.Cause.{Cause}
 use Rattle.gd_text_part.specs.declared.fault.Cause.TheVariants as cause
+use Rattle.gd_text_part.specs.declared.body.TheConstants.{MAX_WRITTEN_CLASS}
+use Rattle.gd_text_part.specs.declared.row.TheConstants.{FIELD_COUNT}
 use Rattle.gd_text_part.specs.declared.row.Member.{Member}
 use Rattle.gd_text_part.specs.declared.row.Member.TheVariants as member
 use Rattle.gd_text_part.specs.declared.row.Row.{Row}
@@ -44,13 +48,13 @@ abbrev pub number_at : List (List ℕ) → ℕ → ℕ → ℕ → Result ℕ Ca
 number_at fields k low high = in_range k low high (number_of (field fields k))
 
 abbrev pub quantity_at : List (List ℕ) → ℕ → Result ℕ Cause
-quantity_at fields k = number_at fields k 0 1_000_000_000
+quantity_at fields k = number_at fields k 0 most_dekatherms
 
 abbrev pub cycle_at : List (List ℕ) → ℕ → Result ℕ Cause
-cycle_at fields k = number_at fields k 1 5
+cycle_at fields k = number_at fields k 1 cycles
 
 abbrev pub round_at : List (List ℕ) → ℕ → Result ℕ Cause
-round_at fields k = number_at fields k 1 1_000_000
+round_at fields k = number_at fields k 1 most_rounds
 
 abbrev pub point_kind_at : List (List ℕ) → ℕ → Result Kind Cause
 point_kind_at fields k =
@@ -59,7 +63,7 @@ point_kind_at fields k =
     else Err (cause.BadField k)
 
 abbrev pub class_at : List (List ℕ) → ℕ → Result ℕ Cause
-class_at fields k = number_at fields k 1 8
+class_at fields k = number_at fields k 1 classes
 
 abbrev pub good_signed : ℕ → Option ℤ → Result ℤ Cause
 good_signed k (Some z) = Ok z
@@ -100,9 +104,9 @@ unfoldable pub empty_run : List (List ℕ) → ℕ → ℕ → Result (Unit {0})
 empty_run fields k zero = Ok tt
 empty_run fields k (suc n) = if length (field fields k) == 0 then empty_run fields (k + 1) n else Err (cause.BadField k)
 
--- field k and those after it, up to the eighth, are empty
+-- field k and those after it are empty
 abbrev pub empty_from : List (List ℕ) → ℕ → Result (Unit {0}) Cause
-empty_from fields k = empty_run fields k (9 - k)
+empty_from fields k = empty_run fields k (FIELD_COUNT + 1 - k)
 
 unfoldable pub segment_row : List (List ℕ) → Result Row Cause
 segment_row fields = do
@@ -150,7 +154,7 @@ unfoldable pub line_row : List (List ℕ) → Result Row Cause
 line_row fields = do
   origin ← name_at fields 2
   dest ← name_at fields 3
-  class ← number_at fields 4 0 255
+  class ← number_at fields 4 0 MAX_WRITTEN_CLASS
   floor ← quantity_at fields 5
   ceiling ← quantity_at fields 6
   rest ← empty_from fields 7

@@ -1,7 +1,7 @@
 -- The rows of a text, or its first fault, and what reading a text may answer.
 use Rattle.std.specs.Prelude.{◌≡◌, ◌≤◌, ◌<◌, ◌⊎◌, ℕ, ◌+◌, List, [], ◌∷◌, length, Result, Ok, Err, ⊤}
 use Rattle.gd_text_part.specs.Csv.{records_of}
-use Rattle.gd_text_part.specs.Places.{start, row_of, at_end}
+use Rattle.gd_text_part.specs.Places.{start, row_of, at_row, at_end}
 use Rattle.gd_text_part.specs.Rows.{◌>>=◌}
 use Rattle.gd_text_part.specs.declared.input.TheConstants.{MAX_BYTES, MAX_READS}
 use Rattle.gd_text_part.specs.declared.records.TheConstants.{MAX_ROWS}
@@ -12,19 +12,19 @@ use Rattle.gd_text_part.specs.declared.kind.Form.{Form}
 use Rattle.gd_text_part.specs.declared.order.Place.{Place}
 use Rattle.gd_text_part.specs.declared.row.Row.{Row}
 
--- the rows that records are from row n on, or the first fault with its row
+-- the rows that records are behind n others, or the first fault with its row
 unfoldable pub rows_from : Form → Place → ℕ → List (List (List ℕ)) → Result (List Row) RowFault
 rows_from form place n [] = do
   whole ← at_end place n
   Ok []
 rows_from form place n (fields ∷ records) = do
-  taken ← row_of form place n fields
+  taken ← at_row (n + 1) (row_of form place fields)
   rows ← rows_from form taken.1 (n + 1) records
   Ok (taken.0 ∷ rows)
 
 -- the rows of a text for a command, or its first fault
 abbrev pub rows_of : Form → List ℕ → Result (List Row) RowFault
-rows_of form text = rows_from form start 1 (records_of text)
+rows_of form text = rows_from form start 0 (records_of text)
 
 -- a text has no more bytes and rows than it may have
 pub record IsWithin (text : List ℕ) : Type 0 where

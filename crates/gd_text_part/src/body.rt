@@ -1,12 +1,13 @@
 //! What the fields of each kind of row are, from the second on.
 
-ghost use Rattle.std.specs.Prelude.{◌≡◌, ◌<◌, IfOk, MatchResult, Ok, Err};
+ghost use Rattle.std.specs.Prelude.{◌≡◌, ◌<◌, MatchResult, Ok, Err};
 ghost use Rattle.csv.specs.Records.{fields_of};
 ghost use Rattle.gd_text_part.specs.declared.row.Row.TheVariants as rows;
+ghost use Rattle.gd_text_part.specs.Found.{Finds};
 ghost use Rattle.gd_text_part.specs.Rows as spec;
 
 use crate::date::CivilDate;
-use crate::fault::Cause;
+use crate::fault::{Cause, TextFault};
 use crate::fields::{
     class_at, cycle_at, date_at, empty_from, member_at, name_at, name_or_none_at, number_at,
     point_kind_at, quantity_at, round_at, signed_at, signed_or_zero_at, text_at,
@@ -15,7 +16,10 @@ use crate::row::{PipelineRow, QuestionRow, Row};
 use crate::zone::ZoneText;
 use csv::ByteRecord;
 use gd_units::Name;
-use std::alloc::{AllocError, Global};
+use std::alloc::Global;
+
+/// The greatest number that may stand for a class of a line. Whether it is a class is found with the line.
+const MAX_WRITTEN_CLASS: u64 = 255;
 
 #[tactic(auto, unfolding(crate::specs::Rows::segment_row))]
 pub(crate) fn segment_row(row: &ByteRecord) -> Result<Row, Cause>
@@ -95,7 +99,7 @@ pub(crate) fn line_row(row: &ByteRecord) -> Result<Row, Cause>
 {
     let origin = name_at(row, 2)?;
     let dest = name_at(row, 3)?;
-    let class = number_at(row, 4, 0, 255)?;
+    let class = number_at(row, 4, 0, MAX_WRITTEN_CLASS)?;
     let floor = quantity_at(row, 5)?;
     let ceiling = quantity_at(row, 6)?;
     empty_from(row, 7)?;
@@ -137,7 +141,8 @@ fn book_at(needed: bool, row: &ByteRecord, k: usize) -> Result<Option<Name>, Cau
 /// The fields of a `day` row, with the zone's text as it stands in the record.
 #[tactic(auto, unfolding(crate::specs::Rows::day_row))]
 fn day_fields(needed: bool, row: &ByteRecord) -> Result<(CivilDate, &str, Option<Name>), Cause>
-    ensures { MatchResult result (λ d. spec.day_row needed (fields_of row.now) ≡ Ok (rows.Day d.0 d.1.now d.2)) (λ c. spec.day_row needed (fields_of row.now) ≡ Err c) }
+    ensures { MatchResult result (λ d. spec.day_row needed (fields_of row.now) ≡ Ok (rows.Day d.0 d.1.now d.2))
+        (λ c. spec.day_row needed (fields_of row.now) ≡ Err c) }
 {
     let date = date_at(row, 2)?;
     let zone = text_at(row, 3)?;
@@ -146,20 +151,21 @@ fn day_fields(needed: bool, row: &ByteRecord) -> Result<(CivilDate, &str, Option
     Ok((date, zone, book))
 }
 
-/// A `day` row, which names a book where one is needed.
+/// Record `number` as a `day` row, which names a book where one is needed.
 pub(crate) fn day_row(
     alloc: Global,
     needed: bool,
+    number: u64,
     row: &ByteRecord,
-) -> Result<Result<Row, Cause>, AllocError>
-    ensures { IfOk result (λ r. r ≡ spec.day_row needed (fields_of row.now)) }
+) -> Result<Row, TextFault>
+    ensures { Finds number result (spec.day_row needed (fields_of row.now)) }
 {
     match day_fields(needed, row) {
         Ok((date, zone, book)) => {
             let zone = ZoneText::of(alloc, zone)?;
-            Ok(Ok(Row::Day { date, zone, book }))
+            Ok(Row::Day { date, zone, book })
         }
-        Err(cause) => Ok(Err(cause)),
+        Err(cause) => Err(TextFault::at(number, cause)),
     }
 }
 

@@ -1,6 +1,6 @@
 //! What single fields are.
 
-ghost use Rattle.std.specs.Prelude.{◌≡◌, ◌<◌, ◌≤◌, IfOk, MatchResult, Ok, Err};
+ghost use Rattle.std.specs.Prelude.{◌≡◌, ◌<◌, ◌≤◌, ◌+◌, IfOk, MatchResult, Ok, Err};
 ghost use Rattle.csv.specs.Records.{fields_of};
 ghost use Rattle.gd_text_part.specs.Dates as dates;
 ghost use Rattle.gd_text_part.specs.Rows as spec;
@@ -8,7 +8,7 @@ ghost use Rattle.gd_text_part.specs.Rows as spec;
 use crate::date::CivilDate;
 use crate::fault::Cause;
 use crate::number::{number_of, signed_of};
-use crate::row::Member;
+use crate::row::{FIELD_COUNT, Member};
 use csv::ByteRecord;
 use gd_units::{Class, CycleNo, Dth, Kind, Name, Round};
 
@@ -59,19 +59,18 @@ pub(crate) fn cycle_at(row: &ByteRecord, k: usize) -> Result<CycleNo, Cause>
     requires { 0 < k }
     ensures { result ≡ spec.cycle_at (fields_of row.now) k }
 {
-    let number = number_at(row, k, 1, 5)?;
+    let number = number_at(row, k, 1, u64::from(CycleNo::MAX))?;
     match CycleNo::new(number as u8) {
         Some(cycle) => Ok(cycle),
         None => Err(Cause::BadField(k)),
     }
 }
 
-/// The round of field `k`, 1 to 1,000,000.
 pub(crate) fn round_at(row: &ByteRecord, k: usize) -> Result<Round, Cause>
     requires { 0 < k }
     ensures { result ≡ spec.round_at (fields_of row.now) k }
 {
-    let number = number_at(row, k, 1, 1_000_000)?;
+    let number = number_at(row, k, 1, u64::from(Round::MAX))?;
     match Round::new(number as u32) {
         Some(round) => Ok(round),
         None => Err(Cause::BadField(k)),
@@ -93,12 +92,11 @@ pub(crate) fn point_kind_at(row: &ByteRecord, k: usize) -> Result<Kind, Cause>
     }
 }
 
-/// The class of field `k`, 1 to 8.
 pub(crate) fn class_at(row: &ByteRecord, k: usize) -> Result<Class, Cause>
     requires { 0 < k }
     ensures { result ≡ spec.class_at (fields_of row.now) k }
 {
-    let number = number_at(row, k, 1, 8)?;
+    let number = number_at(row, k, 1, u64::from(Class::MAX))?;
     match Class::new(number as u8) {
         Some(class) => Ok(class),
         None => Err(Cause::BadField(k)),
@@ -180,7 +178,8 @@ pub(crate) fn date_at(row: &ByteRecord, k: usize) -> Result<CivilDate, Cause>
 /// The text of field `k`, which isn't empty.
 pub(crate) fn text_at(row: &ByteRecord, k: usize) -> Result<&str, Cause>
     requires { 0 < k }
-    ensures { MatchResult result (λ text. spec.text_at (fields_of row.now) k ≡ Ok text.now) (λ c. spec.text_at (fields_of row.now) k ≡ Err c) }
+    ensures { MatchResult result (λ text. spec.text_at (fields_of row.now) k ≡ Ok text.now)
+        (λ c. spec.text_at (fields_of row.now) k ≡ Err c) }
 {
     let bytes = field(row, k);
     if bytes.is_empty() {
@@ -192,13 +191,13 @@ pub(crate) fn text_at(row: &ByteRecord, k: usize) -> Result<&str, Cause>
     }
 }
 
-/// Finds that field `k` and those after it, up to the eighth, are empty.
+/// Finds that field `k` and those after it are empty.
 pub(crate) fn empty_from(row: &ByteRecord, k: usize) -> Result<(), Cause>
     requires some { 0 < k }
-    requires few { k ≤ 9 }
+    requires few { k ≤ FIELD_COUNT + 1 }
     ensures { result ≡ spec.empty_from (fields_of row.now) k }
 {
-    'fields: for at in k..9 {
+    'fields: for at in k..FIELD_COUNT + 1 {
         if !field(row, at).is_empty() {
             return Err(Cause::BadField(at));
         }

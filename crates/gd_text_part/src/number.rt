@@ -3,12 +3,15 @@
 ghost use Rattle.std.specs.Prelude.{◌≡◌, ◌<◌, ◌^◌, IfSome};
 ghost use Rattle.gd_text_part.specs.Numbers as spec;
 
-/// The number that 1 to 18 decimal digits spell, leading zeros allowed, or `None`.
+/// The most digits that a number may have (own).
+const MAX_DIGITS: usize = 18;
+
+/// The number that at most `MAX_DIGITS` decimal digits spell, leading zeros allowed, or `None`.
 pub fn number_of(bytes: &[u8]) -> Option<u64>
     ensures number { result ≡ spec.number_of bytes.now }
-    ensures small { IfSome result (λ n. n < 10 ^ 18) }
+    ensures small { IfSome result (λ n. n < 10 ^ MAX_DIGITS) }
 {
-    if bytes.is_empty() || bytes.len() > 18 {
+    if bytes.is_empty() || bytes.len() > MAX_DIGITS {
         return None;
     }
     let mut number = 0;
@@ -21,7 +24,7 @@ pub fn number_of(bytes: &[u8]) -> Option<u64>
     Some(number)
 }
 
-/// The number that 1 to 18 decimal digits spell, behind a `-` or not, or `None`.
+/// The number that at most `MAX_DIGITS` decimal digits spell, behind a `-` or not, or `None`.
 pub fn signed_of(bytes: &[u8]) -> Option<i64>
     ensures { result ≡ spec.signed_of bytes.now }
 {

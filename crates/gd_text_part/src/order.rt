@@ -2,17 +2,18 @@
 
 ghost use Rattle.std.specs.Prelude.{◌≡◌, ◌<◌, ◌≤◌, ◌+◌, ◌^◌, IfOk};
 ghost use Rattle.csv.specs.Records.{fields_of};
+ghost use Rattle.gd_text_part.specs.Found.{Finds};
 
 use crate::body::{
     capacity_row, day_row, inside_row, line_row, point_row, pool_row, price_row, question_row,
     sched_row, segment_row,
 };
-use crate::fault::{Cause, RowFault};
+use crate::fault::{Cause, RowFault, TextFault};
 use crate::fields::field;
 use crate::kind::{Form, RowKind, kind_of};
-use crate::row::Row;
+use crate::row::{FIELD_COUNT, Row};
 use csv::ByteRecord;
-use std::alloc::{AllocError, Global};
+use std::alloc::Global;
 
 /// What the rows so far leave of the order of a text.
 #[derive(Clone, Copy, Debug, PartialEq, Eq)]
@@ -67,22 +68,24 @@ fn after(place: Place, kind: RowKind) -> Place
     }
 }
 
+/// The row of this kind that record `number` is.
 fn body(
     alloc: Global,
     form: Form,
     kind: RowKind,
     place: Place,
+    number: u64,
     row: &ByteRecord,
-) -> Result<Result<Row, Cause>, AllocError>
+) -> Result<Row, TextFault>
     requires { place.scheds + 1 < 2 ^ 32 }
-    ensures { IfOk result (λ r. r ≡ spec.body form kind place (fields_of row.now)) }
+    ensures { Finds number result (spec.body form kind place (fields_of row.now)) }
 {
     let read = match kind {
         RowKind::Segment => segment_row(row),
         RowKind::Point => point_row(row),
         RowKind::Pool => pool_row(row),
         RowKind::Question => question_row(row),
-        RowKind::Day => return day_row(alloc, form.needs_book(), row),
+        RowKind::Day => return day_row(alloc, form.needs_book(), number, row),
         RowKind::Capacity => capacity_row(row),
         RowKind::Line => line_row(row),
         RowKind::Sched => sched_row(place.scheds + 1, row),
@@ -90,14 +93,17 @@ fn body(
         RowKind::Inside => inside_row(row),
         _ => Err(Cause::Order),
     };
-    Ok(read)
+    match read {
+        Ok(row) => Ok(row),
+        Err(cause) => Err(TextFault::at(number, cause)),
+    }
 }
 
 /// The kind of a record that may stand here, or its first fault up to there.
 fn kind_at(form: Form, place: Place, row: &ByteRecord) -> Result<RowKind, Cause>
     ensures { result ≡ spec.kind_at form place (fields_of row.now) }
 {
-    if row.len() != 8 {
+    if row.len() != FIELD_COUNT {
         return Err(Cause::FieldCount);
     }
     let Some(kind) = kind_of(field(row, 1)) else {
@@ -109,54 +115,45 @@ fn kind_at(form: Form, place: Place, row: &ByteRecord) -> Result<RowKind, Cause>
     Ok(kind)
 }
 
-/// The row that a record is and the place after it, or the first fault of this record.
-fn row_at(
-    alloc: Global,
-    form: Form,
-    place: Place,
-    row: &ByteRecord,
-) -> Result<Result<(Row, Place), Cause>, AllocError>
-    requires { place.scheds + 1 < 2 ^ 32 }
-    ensures row { IfOk result (λ r. r ≡ spec.row_at form place (fields_of row.now)) }
-    ensures scheds { IfOk result (λ r. IfOk r (λ p. p.1.scheds ≤ place.scheds + 1)) }
-{
-    match kind_at(form, place, row) {
-        Ok(kind) => match body(alloc, form, kind, place, row)? {
-            Ok(row) => Ok(Ok((row, after(place, kind)))),
-            Err(cause) => Ok(Err(cause)),
-        },
-        Err(cause) => Ok(Err(cause)),
-    }
-}
-
-/// The row that record `number` is and the place after it, or the fault that it shows, at its own
-/// row or at one before it.
+/// The row that record `number` is and the place after it, or its first fault.
 pub(crate) fn row_of(
     alloc: Global,
     form: Form,
     place: Place,
     number: u64,
     row: &ByteRecord,
-) -> Result<Result<(Row, Place), RowFault>, AllocError>
+) -> Result<(Row, Place), TextFault>
     requires { place.scheds + 1 < 2 ^ 32 }
-    ensures row { IfOk result (λ r. r ≡ spec.row_of form place number (fields_of row.now)) }
-    ensures scheds { IfOk result (λ r. IfOk r (λ p. p.1.scheds ≤ place.scheds + 1)) }
+    ensures row { Finds number result (spec.row_of form place (fields_of row.now)) }
+    ensures scheds { IfOk result (λ p. p.1.scheds ≤ place.scheds + 1) }
 {
-    match row_at(alloc, form, place, row)? {
-        Ok(taken) => Ok(Ok(taken)),
-        Err(cause) => Ok(Err(RowFault { row: number, cause })),
+    match kind_at(form, place, row) {
+        Ok(kind) => {
+            let row = body(alloc, form, kind, place, number, row)?;
+            Ok((row, after(place, kind)))
+        }
+        Err(cause) => Err(TextFault::at(number, cause)),
     }
 }
 
-/// The fault that the end of the text shows, `number` being one past its last row.
-pub(crate) fn at_end(place: Place, number: u64) -> Result<(), RowFault>
-    ensures { result ≡ spec.at_end place number }
+/// The head of a text of so many rows is missing, which is told at one row past the last.
+pub fn missing_head(rows: u64) -> RowFault
+    requires { rows + 1 < 2 ^ 64 }
+    ensures { result ≡ spec.missing_head rows }
+{
+    RowFault {
+        row: rows + 1,
+        cause: Cause::Missing,
+    }
+}
+
+/// The fault that the end of a text of so many rows shows.
+pub(crate) fn at_end(place: Place, rows: u64) -> Result<(), RowFault>
+    requires { rows + 1 < 2 ^ 64 }
+    ensures { result ≡ spec.at_end place rows }
 {
     if place.headed {
         return Ok(());
     }
-    Err(RowFault {
-        row: number,
-        cause: Cause::Missing,
-    })
+    Err(missing_head(rows))
 }

@@ -4,6 +4,9 @@ use crate::date::CivilDate;
 use crate::zone::ZoneText;
 use gd_units::{Class, CycleNo, Dth, Kind, Name, Round};
 
+/// How many fields a row has.
+pub const FIELD_COUNT: usize = 8;
+
 /// What may be a member of a cut's set.
 #[derive(Clone, Copy, Debug, PartialEq, Eq)]
 pub enum Member {

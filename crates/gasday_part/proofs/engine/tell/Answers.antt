@@ -1,5 +1,5 @@
 use Rattle.std.proofs.Common.{◌∙◌, arith, ◌≡◌}
-use Rattle.gd_text.specs.Lines.{line_of}
+use Rattle.gd_replies.specs.Lines.{line_of}
 use Rattle.gasday_part.proofs.Writing.{no_memory_after, stops_in}
 use Rattle.gasday_part.proofs.engine.tell.Goals as goal
 

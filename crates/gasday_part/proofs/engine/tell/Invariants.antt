@@ -1,6 +1,6 @@
 use Rattle.std.proofs.Common.{take}
 use Rattle.std.specs.Io.KnownBytes.{Appends}
-use Rattle.gd_text.specs.Lines.{lines_of}
+use Rattle.gd_replies.specs.Lines.{lines_of}
 use Rattle.gasday_part.proofs.engine.tell.Given as goal
 
 abbrev pub invariant-replies : goal.invariant-replies

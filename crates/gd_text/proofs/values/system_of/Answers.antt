@@ -6,6 +6,7 @@ use Rattle.gd_text_part.specs.declared.fault.TextFault.TheVariants as fault
 use Rattle.gd_system.specs.Pipeline.{Pipeline, empty}
 use Rattle.gd_text.specs.Building.{built_from}
 use Rattle.gd_text.specs.Values.{pipeline_step, finished}
+use Rattle.std.proofs.lemmas.Result.{err_from_is_err_and}
 use Rattle.gd_text.proofs.Building.{goes_on, stops, is_done, finished_yes, finished_no}
 use Rattle.gd_text.proofs.values.system_of.Goals as goal
 
@@ -20,15 +21,16 @@ either : (f : TextFault) (built step : Result Pipeline TextFault) (n : ℕ) → 
 either f built step n go (inl m) = inl m
 either f built step n go (inr e) = inr (refused built n f (go e))
 
-pub returns-in-Err : goal.returns-in-Err
-returns-in-Err c =
-    either c.in-Err.fault (built_from pipeline_step 1 empty c.args.rows.now) (pipeline_step (c.rows.index + 1) c.rows.builder c.index-rows-index.result) (length c.args.rows.now + 1)
-    (λ e. stops pipeline_step (c.rows.index + 1) c.rows.index c.rows.builder c.index-rows-index.result c.args.rows.now c.in-Err.fault (built_from pipeline_step 1 empty c.args.rows.now) c.rows-test.true c.index-rows-index.is e c.rows.invariant)
-    c.in-Err.ensures
+pub returns-in_err-add_part : goal.returns-in_err-add_part
+returns-in_err-add_part c =
+    let p = err_from_is_err_and c.from_residual.result c.from_residual.ensures.1 in
+    rw (p.1, p.2) (either _ (built_from pipeline_step 1 empty c.args.rows.now) (pipeline_step (c.rows.index + 1) c.rows.builder c.index-rows-index.result) (length c.args.rows.now + 1)
+    (λ e. stops pipeline_step (c.rows.index + 1) c.rows.index c.rows.builder c.index-rows-index.result c.args.rows.now _ (built_from pipeline_step 1 empty c.args.rows.now) c.rows-test.true c.index-rows-index.is e c.rows.invariant)
+    c.in_err-add_part.ensures)
 
 pub rows-preserved : goal.rows-preserved
 rows-preserved c =
-    goes_on pipeline_step (c.rows.index + 1) c.rows.index c.rows.builder c.add_part.new.builder c.index-rows-index.result c.args.rows.now (built_from pipeline_step 1 empty c.args.rows.now) c.rows-test.true c.index-rows-index.is c.in_default.ensures c.rows.invariant
+    goes_on pipeline_step (c.rows.index + 1) c.rows.index c.rows.builder c.add_part.new.builder c.index-rows-index.result c.args.rows.now (built_from pipeline_step 1 empty c.args.rows.now) c.rows-test.true c.index-rows-index.is c.in_ok-add_part.ensures c.rows.invariant
 
 pub returns-in-Ok : goal.returns-in-Ok
 returns-in-Ok c =
@@ -39,4 +41,5 @@ returns-in-Ok c =
 pub returns : goal.returns
 returns c =
     let done = is_done pipeline_step (c.rows.index + 1) c.rows.index c.rows.builder c.args.rows.now (built_from pipeline_step 1 empty c.args.rows.now) c.rows-test.false c.rows.invariant in
-    inr (whole (built_from pipeline_step 1 empty c.args.rows.now) (length c.args.rows.now + 1) c.rows.builder _ done (finished_no (length c.args.rows.now + 1) c.rows.builder c.in-Err-finish.ensures.refused.2))
+    let told = rw c.in-Err.ensures.refused.0 at c.at.ensures in
+    rw told (inr (whole (built_from pipeline_step 1 empty c.args.rows.now) (length c.args.rows.now + 1) c.rows.builder _ done (finished_no (length c.args.rows.now + 1) c.rows.builder c.in-Err.ensures.refused.2)))

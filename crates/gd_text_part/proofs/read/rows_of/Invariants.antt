@@ -7,7 +7,7 @@ use Rattle.gd_text_part.proofs.read.rows_of.Given as goal
 abbrev pub invariant-rows : goal.invariant-rows
 invariant-rows l = record {
   reading : IsReading l.records;
-  told : with_front l.rows.items (rows_from l.form l.place (l.records.taken + 1) (records_left l.records)) ≡ rows_of l.form l.text;
+  told : with_front l.rows.items (rows_from l.form l.place l.records.taken (records_left l.records)) ≡ rows_of l.form l.text;
   all : l.records.taken + length (records_left l.records) ≡ length (records_of l.text);
   scheds : l.place.scheds ≤ l.records.taken;
 }

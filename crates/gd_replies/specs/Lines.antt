@@ -1,0 +1,65 @@
+-- How replies are printed: rows of FIELD_COUNT fields, each ended by a line feed.
+use Rattle.std.specs.Prelude.{ℕ, ◌-◌, ◌==◌, ℤ, unsigned_abs, codes, if◌then◌else◌}
+use Rattle.std.specs.Prelude.{List, [], ◌∷◌, ◌++◌, length, replicate}
+use Rattle.std.specs.List.{flat_map, join_with_byte}
+use Rattle.std.specs.Fmt.{decimal, signed_decimal}
+use Rattle.gd_text_part.specs.Causes.{fault_row, fault_name, fault_detail}
+use Rattle.gd_text_part.specs.declared.row.TheConstants.{FIELD_COUNT}
+use Rattle.gd_text_part.specs.declared.row.Member.{Member}
+use Rattle.gd_text_part.specs.declared.row.Member.TheVariants as member
+use Rattle.gd_replies.specs.declared.reply.Reply.{Reply}
+use Rattle.gd_replies.specs.declared.reply.Reply.TheVariants as reply
+
+-- the fields, and empty ones behind them up to a whole row
+abbrev pub whole : List (List ℕ) → List (List ℕ)
+whole fields = fields ++ replicate (FIELD_COUNT - length fields) []
+
+-- the fields with commas between, and a line feed
+abbrev pub line : List (List ℕ) → List ℕ
+line fields = join_with_byte 44 (whole fields) ++ 10 ∷ []
+
+abbrev pub member_name : Member → List ℕ
+member_name member.Place = codes "place"
+member_name member.Point = codes "point"
+member_name member.Pool = codes "pool"
+
+-- a word of the spread, empty where it is 0
+abbrev pub spread_field : ℤ → List ℕ
+spread_field spread = if unsigned_abs spread == 0 then [] else signed_decimal spread
+
+abbrev pub fields_of : Reply → List (List ℕ)
+fields_of (reply.Fault f) = codes "fault" ∷ fault_row f ∷ fault_name f ∷ fault_detail f ∷ []
+fields_of reply.Allowed = codes "allowed" ∷ []
+fields_of reply.Shape = codes "broken" ∷ codes "Shape" ∷ []
+fields_of (reply.BelowFloor i) = codes "broken" ∷ codes "BelowFloor" ∷ decimal i ∷ []
+fields_of (reply.AboveCeiling i) = codes "broken" ∷ codes "AboveCeiling" ∷ decimal i ∷ []
+fields_of (reply.OverCapacity name) = codes "broken" ∷ codes "OverCapacity" ∷ name ∷ []
+fields_of (reply.Unbalanced name) = codes "broken" ∷ codes "Unbalanced" ∷ name ∷ []
+fields_of reply.Best = codes "best" ∷ []
+fields_of (reply.PriceTooLarge name) = codes "broken" ∷ codes "PriceTooLarge" ∷ name ∷ []
+fields_of (reply.PriceOnSlack name) = codes "broken" ∷ codes "PriceOnSlack" ∷ name ∷ []
+fields_of (reply.Underfilled i) = codes "broken" ∷ codes "Underfilled" ∷ decimal i ∷ []
+fields_of (reply.Overfilled i) = codes "broken" ∷ codes "Overfilled" ∷ decimal i ∷ []
+fields_of (reply.Cut excess) = codes "cut" ∷ decimal excess ∷ []
+fields_of reply.NotCut = codes "broken" ∷ codes "NotCut" ∷ []
+fields_of (reply.Total c q) = codes "total" ∷ decimal c ∷ decimal q ∷ []
+fields_of (reply.Sched i q) = codes "sched" ∷ decimal i ∷ decimal q ∷ []
+fields_of (reply.Price name level word spread) =
+    codes "price" ∷ name ∷ decimal level ∷ signed_decimal word ∷ spread_field spread ∷ []
+fields_of (reply.Inside kind name) = codes "inside" ∷ member_name kind ∷ name ∷ []
+fields_of reply.OutOfRange = codes "refused" ∷ codes "calendar" ∷ codes "1" ∷ codes "OutOfRange" ∷ []
+fields_of reply.BadZone = codes "refused" ∷ codes "calendar" ∷ codes "2" ∷ codes "BadZone" ∷ []
+fields_of (reply.Cycle c leaves received quick confirmed schedules effective) =
+    codes "cycle" ∷ decimal c ∷ decimal leaves ∷ decimal received ∷ decimal quick
+    ∷ decimal confirmed ∷ decimal schedules ∷ decimal effective ∷ []
+fields_of (reply.Hours length timely evening intraday_1 intraday_2 intraday_3) =
+    codes "hours" ∷ decimal length ∷ decimal timely ∷ decimal evening
+    ∷ decimal intraday_1 ∷ decimal intraday_2 ∷ decimal intraday_3 ∷ []
+
+-- the bytes of a reply
+abbrev pub line_of : Reply → List ℕ
+line_of r = line (fields_of r)
+
+-- the bytes of replies, one after the other
+abbrev pub lines_of : List Reply → List ℕ
+lines_of replies = flat_map line_of replies
