@@ -1,6 +1,6 @@
 //! The book.
 
-ghost use Rattle.std.specs.Prelude.{◌≡◌, ℕ, [], ◌≤◌, true, false, length, take, IfOk, IfErr, OnOk};
+ghost use Rattle.std.specs.Prelude.{◌≡◌, ℕ, [], ◌≤◌, true, false, length as len_of, take, IfOk, IfErr, OnOk};
 ghost use Rattle.std.specs.Option.{MatchOption};
 ghost use Rattle.gd_board.specs.Known.{known_of};
 ghost use Rattle.gd_machine.specs.History.{cycle_of, is_frozen, session_calls};
@@ -12,6 +12,7 @@ ghost use Rattle.gd_book_part.specs.Names.{ExplainsOpen};
 ghost use Rattle.gd_book.specs.Posted.{IsPosted};
 
 use crate::ledger::Ledger;
+use crate::replay::Replay;
 use gd_board::{Board, BoardNote};
 use gd_book_part::{OpenFault, Opening};
 use gd_calendar::Calendar;
@@ -263,5 +264,25 @@ impl Book {
         ensures holds { Holds self.now.day self.now.history }
     {
         self.ledger.history.as_slice()
+    }
+
+    /// A walk along the history, from its beginning.
+    pub fn replay(&self) -> Result<Replay<'_>, AllocError>
+        ensures { IfOk result (λ replay. replay
+            ≡ record { day = self.now.day; history = self.now.history; at = 0 }) }
+    {
+        Replay::of(self.alloc, &self.ledger.opening, &self.ledger.history)
+    }
+
+    /// The first refusal of an event after the first `length` events of the history, a board that is taken aside; a walk to
+    /// that place. The only error is want of memory.
+    pub fn refusal_at(&self, length: usize, event: &Event) -> Result<Option<Refusal>, AllocError>
+        requires { length ≤ len_of self.now.history }
+        ensures { IfOk result (λ refusal. refusal
+            ≡ refusal_of self.now.day (take length self.now.history) event.now) }
+    {
+        let mut replay = self.replay()?;
+        replay.go_to(length)?;
+        Ok(replay.refusal(event))
     }
 }

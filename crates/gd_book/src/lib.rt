@@ -9,7 +9,9 @@
 
 mod book;
 mod ledger;
+mod replay;
 
 pub use book::Book;
 pub use gd_book_part::OpenFault;
 pub use gd_machine::{Event, MAX_EVENTS, Refusal, Reply};
+pub use replay::Replay;
