@@ -19,7 +19,7 @@ fn main(rt: HostRuntime) -> ExitCode {
         Ok(command) => {
             let mut reader = rt.reader();
             let mut writer = io::writer(&rt);
-            ExitCode::from(run(rt.alloc(), command, &mut reader, &mut writer))
+            ExitCode::from(run(&rt, rt.alloc(), command, &mut reader, &mut writer))
         }
         Err(UsageFault::Help(text)) => match rt.print(text) {
             Ok(()) => ExitCode::SUCCESS,

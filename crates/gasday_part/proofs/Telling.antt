@@ -37,3 +37,9 @@ told_no_memory words k OutOfMemory no_memory telling = tt
 pub told : (words : List Text) (e : Error) (fault : UsageFault) → HasKind (fault_of gasday words) e → IsTelling (kind_of e) fault → IsTold words fault
 told words e fault has telling =
     elim has [ inl no_memory ↦ told_no_memory words (kind_of e) fault no_memory telling | inr among ↦ told_among words (kind_of e) fault among telling ]
+
+-- want of memory is told as such
+pub memory_told : (k : ErrorKind) (fault : UsageFault) → k ≡ kind.OutOfMemory → IsTelling k fault → fault ≡ OutOfMemory
+memory_told k (Help text) no_memory is_help = let bad : kind.OutOfMemory ≡ kind.DisplayHelp = sym no_memory ∙ is_help in cc
+memory_told k (Usage text) no_memory other = absurd (other.1 no_memory)
+memory_told k OutOfMemory no_memory telling = refl

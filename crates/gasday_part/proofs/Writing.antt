@@ -1,18 +1,18 @@
 -- Writing replies one after the other.
-use Rattle.std.proofs.Common.{◌≡◌, ℕ, ◌+◌, ◌<◌, ◌≤◌, List, [], ◌∷◌, ◌++◌, Option, take, drop, length, get_or, refl, sym, ap, ◌∙◌, append_assoc, inl, inr}
+use Rattle.std.proofs.Common.{◌≡◌, ℕ, ◌+◌, ◌<◌, ◌≤◌, List, [], ◌∷◌, ◌++◌, Option, take, drop, length, get_or, refl, sym, ap, ◌∙◌, append_assoc, inl, inr, arith}
 use Rattle.std.specs.Io.KnownBytes.{Appends}
 use Rattle.std.proofs.KnownBytes.{Appends-trans}
 use Rattle.std.proofs.lemmas.Grind.{flat_map-append}
-use Rattle.std.proofs.lemmas.List.{take-append-drop, take_more, take_all, append-nil, take-append-le}
-use Rattle.std.proofs.Math.Seq.{take-append-add}
+use Rattle.std.proofs.lemmas.List.{take-append-drop, take_more, take_all, append-nil, take-append-le, length-append, get_or_append_left}
+use Rattle.std.proofs.Math.Seq.{take-append-add, take-append_seam}
 use Rattle.gd_replies.specs.declared.reply.Reply.{Reply}
 use Rattle.gd_replies.specs.Lines.{line_of, lines_of}
 use Rattle.std.proofs.Common.{Some, None, IfSome}
 use Rattle.std.proofs.KnownBytes.{Appends-nil}
 use Rattle.gd_text_part.specs.declared.fault.TextFault.TheVariants as fault
 use Rattle.gasday_part.specs.declared.command.Command.{Command}
-use Rattle.gasday_part.specs.Answers.{Told, fault_answer}
-use Rattle.gasday_part.specs.Written.{Answers, Written, no_memory}
+use Rattle.gasday_part.specs.Answers.{Told, fault_answer, no_memory}
+use Rattle.gasday_part.specs.Written.{Answers, Written}
 
 lines-append : (a b : List Reply) → lines_of (a ++ b) ≡ lines_of a ++ lines_of b
 lines-append a b = flat_map-append line_of a b
@@ -63,3 +63,35 @@ told_none k None old new n now = tt
 told_none k (Some text) old new n now =
     let a = fault_answer fault.ReadFailed in
     (a, inr (inr refl), no_memory_after old old new a 0 n (Appends-nil old) now)
+
+-- ---- replies with more behind them
+
+front : (replies more : List Reply) (i : ℕ) → i ≤ length replies → take i (replies ++ more) ≡ take i replies
+front replies more i le = take-append-le i replies more le
+
+-- memory ran out after the first i replies, whatever was to come behind all
+pub short_of : (old mid new : Option (List ℕ)) (replies more : List Reply) (status i n : ℕ) → i ≤ length replies
+    → Appends old mid (lines_of (take i replies)) → Appends mid new (take n (lines_of (no_memory ∷ []))) → Written old new 2 (record { replies = replies ++ more; status = status })
+short_of old mid new replies more status i n le before now =
+    no_memory_after old mid new (record { replies = replies ++ more; status = status }) i n (rw (sym (front replies more i le)) at before) now
+
+-- the writer failed in the reply at i, whatever was to come behind all
+pub stops_short : (old mid new : Option (List ℕ)) (replies more : List Reply) (status i n : ℕ) (r : Reply) → i < length replies → r ≡ get_or replies i r → n ≤ length (line_of r)
+    → Appends old mid (lines_of (take i replies)) → Appends mid new (take n (line_of r)) → Written old new 2 (record { replies = replies ++ more; status = status })
+stops_short old mid new replies more status i n r lt is le before now =
+    stops_in old mid new (record { replies = replies ++ more; status = status }) i n r (omega (arith, lt, length-append replies more)) (is ∙ sym (get_or_append_left replies more r i lt)) le
+    (rw (sym (front replies more i (omega (arith, lt)))) at before) now
+
+-- all replies were written, and none was to come behind them
+pub all_told : (old new : Option (List ℕ)) (replies : List Reply) (status i : ℕ) → length replies ≤ i → Appends old new (lines_of (take i replies))
+    → Written old new status (record { replies = replies ++ []; status = status })
+all_told old new replies status i le told =
+    let whole : replies ++ [] ≡ replies = append-nil replies in
+    rw whole (is_done old new (record { replies = replies; status = status }) i le told)
+
+-- memory ran out after all replies, and that was to be told behind them
+pub short_behind : (old mid new : Option (List ℕ)) (replies more : List Reply) (status i n : ℕ) → length replies ≤ i
+    → Appends old mid (lines_of (take i replies)) → Appends mid new (take n (lines_of (no_memory ∷ []))) → Written old new 2 (record { replies = replies ++ more; status = status })
+short_behind old mid new replies more status i n le before now =
+    let whole : take i replies ≡ take (length replies) (replies ++ more) = take_all i replies le ∙ sym (take-append_seam replies more) in
+    no_memory_after old mid new (record { replies = replies ++ more; status = status }) (length replies) n (rw whole at before) now

@@ -1,5 +1,5 @@
 -- What a command answers to a text.
-use Rattle.std.specs.Prelude.{◌≡◌, ◌⊎◌, ℕ, ℤ, pos, map, List, [], ◌∷◌, Result, Ok, Err}
+use Rattle.std.specs.Prelude.{◌≡◌, ◌≢◌, ◌⊎◌, ℕ, ℤ, pos, map, List, [], ◌∷◌, ◌++◌, Result, Ok, Err, ⊤}
 use Rattle.std.specs.Option.{IsSome}
 use Rattle.jiff.specs.Words.{IsYmd, read_whole}
 use Rattle.jiff.specs.Placed.{IsPosixZone}
@@ -30,6 +30,11 @@ use Rattle.gd_text_part.specs.Dates.{YearMonthDay}
 use Rattle.gd_text_part.specs.declared.kind.Form.{Form}
 use Rattle.gd_text_part.specs.declared.kind.Form.TheVariants as form
 use Rattle.gd_replies.specs.Calendars.{calendar_rows}
+use Rattle.gd_machine.specs.Day.{Day}
+use Rattle.gd_machine.specs.History.{History}
+use Rattle.gd_day.specs.Calls.{Call, calls_of}
+use Rattle.gd_day.specs.Opened.{Opened, opened_of}
+use Rattle.gd_course.specs.Course.{Runs, RunsInPart}
 use Rattle.gd_text.specs.Building.{told_at}
 use Rattle.gd_text.specs.Days.{day_of}
 use Rattle.gd_text.specs.Values.{asked_of, question_of}
@@ -38,6 +43,8 @@ use Rattle.gd_text.specs.Members.{members_of}
 use Rattle.gd_replies.specs.Replies.{allowed_rows, best_rows, Tells, TellsFault, cut_fault_reply, solved_rows, cut_rows}
 use Rattle.gd_replies.specs.declared.reply.Reply.{Reply}
 use Rattle.gd_replies.specs.declared.reply.Reply.TheVariants as reply
+use Rattle.gasday_part.specs.declared.day.DayFault.{DayFault}
+use Rattle.gasday_part.specs.declared.day.DayFault.TheVariants as no
 use Rattle.gasday_part.specs.declared.command.Command.{Command}
 use Rattle.gasday_part.specs.declared.command.Command.TheVariants as command
 
@@ -131,27 +138,68 @@ abbrev pub SolvesAsked : Result Posed TextFault → Told → Type 0
 SolvesAsked (Ok q) a = Solves q a
 SolvesAsked (Err f) a = a ≡ fault_answer f
 
--- The zone's calendar of a gas day is told, with status 0; or there is none.
-abbrev pub TellsZone : TimeZone → Date → Told → Type 0
-TellsZone zone day a =
-    ((moments : List ℕ) × IsCalendarOf zone day moments × (a ≡ record { replies = calendar_rows moments; status = 0 }))
-    ⊎ (IsBadZone zone day × (a ≡ refused reply.BadZone))
+-- The moments of the gas day of a date, by the clock of the zone whose POSIX rule a text is.
+abbrev pub IsCalendarIn : YearMonthDay → List ℕ → List ℕ → Type 0
+IsCalendarIn date text moments =
+    (day : Date) × IsYmd (pos date.year) (pos date.month) (pos date.day) day × IsGasDay day
+    × ((zone : TimeZone) × IsPosixZone text zone × IsCalendarOf zone day moments)
 
--- The date is none of the gas days, or the text is no POSIX rule, or it is the rule of a zone.
-abbrev pub TellsDay : Date → List ℕ → Told → Type 0
-TellsDay day text a =
-    (¬ (IsGasDay day) × (a ≡ refused reply.OutOfRange))
-    ⊎ (IsGasDay day × ¬ (IsSome (read_whole text)) × (a ≡ refused reply.BadZone))
-    ⊎ (IsGasDay day × ((zone : TimeZone) × IsPosixZone text zone × TellsZone zone day a))
+-- The date is none of the gas days.
+abbrev pub IsNoGasDay : YearMonthDay → Type 0
+IsNoGasDay date = (day : Date) × IsYmd (pos date.year) (pos date.month) (pos date.day) day × ¬ (IsGasDay day)
 
--- the calendar of the day of this date is told, where it has one
-abbrev pub TellsDate : YearMonthDay → List ℕ → Told → Type 0
-TellsDate date text a = (day : Date) × IsYmd (pos date.year) (pos date.month) (pos date.day) day × TellsDay day text a
+-- The text is no POSIX rule, or its zone gives the gas day no calendar.
+abbrev pub HasBadZone : YearMonthDay → List ℕ → Type 0
+HasBadZone date text =
+    (day : Date) × IsYmd (pos date.year) (pos date.month) (pos date.day) day × IsGasDay day
+    × (¬ (IsSome (read_whole text)) ⊎ ((zone : TimeZone) × IsPosixZone text zone × IsBadZone zone day))
+
+-- Why a date has no calendar in a zone.
+abbrev pub ExplainsDay : YearMonthDay → List ℕ → DayFault → Type 0
+ExplainsDay date text no.OutOfRange = IsNoGasDay date
+ExplainsDay date text no.BadZone = HasBadZone date text
+ExplainsDay date text no.OutOfMemory = ⊤
+
+-- the row that tells it; want of memory has none
+abbrev pub no_calendar : DayFault → Reply
+no_calendar no.OutOfRange = reply.OutOfRange
+no_calendar f = reply.BadZone
+
+-- The gas day of a date is told by its calendar, or that it has none.
+abbrev pub TellsDate : (List ℕ → Told → Type 0) → YearMonthDay → List ℕ → Told → Type 0
+TellsDate tells date text a =
+    ((moments : List ℕ) × IsCalendarIn date text moments × tells moments a)
+    ⊎ ((f : DayFault) × (f ≢ no.OutOfMemory) × ExplainsDay date text f × (a ≡ refused (no_calendar f)))
+
+-- the moments of a calendar, with status 0
+abbrev pub TellsMoments : List ℕ → Told → Type 0
+TellsMoments moments a = a ≡ record { replies = calendar_rows moments; status = 0 }
 
 -- the calendar of a text's gas day is told, or that the text has none
 abbrev pub TellsCalendar : Result (YearMonthDay × List ℕ) TextFault → Told → Type 0
-TellsCalendar (Ok asked) a = TellsDate asked.0 asked.1 a
+TellsCalendar (Ok asked) a = TellsDate TellsMoments asked.0 asked.1 a
 TellsCalendar (Err f) a = a ≡ fault_answer f
+
+-- What is told last where memory ran out.
+abbrev pub no_memory : Reply
+no_memory = reply.Fault fault.OutOfMemory
+
+-- All calls are made on a book of that day, and what they give is told, with status 0. Or memory runs out, and what the
+-- first calls give is told, and that, with status 2.
+abbrev pub TellsCourse : Day → List Call → Told → Type 0
+TellsCourse day calls a =
+    ((rows : List Reply) × (after : History) × Runs day [] calls rows after × (a ≡ record { replies = rows; status = 0 }))
+    ⊎ ((rows : List Reply) × RunsInPart day [] calls rows
+    × (a ≡ record { replies = rows ++ no_memory ∷ []; status = 2 }))
+
+-- What a book is opened with, in a calendar of these moments.
+abbrev pub day_in : Opened → List ℕ → Day
+day_in o moments = record { name = o.book; held = o.held; moments = moments; carry = o.carry }
+
+-- the course of a text's gas day, or the first refusal
+abbrev pub TellsDay : List Row → Result Opened TextFault → Told → Type 0
+TellsDay rows (Ok o) a = TellsDate (λ moments. TellsCourse (day_in o moments) (calls_of rows)) o.date o.zone a
+TellsDay rows (Err f) a = a ≡ fault_answer f
 
 -- how a command's text is read
 abbrev pub form_of : Command → Form
@@ -160,6 +208,7 @@ form_of command.CheckBest = form.CheckBest
 form_of command.CheckCut = form.CheckCut
 form_of command.Solve = form.Solve
 form_of command.Calendar = form.Calendar
+form_of command.Day = form.Day
 
 -- what a command answers to the rows of its text
 abbrev pub AnswersRows : Command → List Row → Told → Type 0
@@ -168,6 +217,7 @@ AnswersRows command.CheckBest rows a = ChecksBest rows (asked_of rows) a
 AnswersRows command.CheckCut rows a = ChecksCut rows (question_of rows) a
 AnswersRows command.Solve rows a = SolvesAsked (question_of rows) a
 AnswersRows command.Calendar rows a = TellsCalendar (day_of rows) a
+AnswersRows command.Day rows a = TellsDay rows (opened_of rows) a
 
 -- the rows are answered, or the first fault is told
 abbrev pub AnswersText : Command → Result (List Row) RowFault → Told → Type 0

@@ -2,7 +2,7 @@
 use Rattle.std.specs.Prelude.{true, List, [], ◌∷◌, Option, Some, None, drop, codes, if◌then◌else◌}
 use Rattle.std.specs.Str.{bytes_eq}
 use Rattle.gasday_part.specs.declared.command.Command.{Command}
-use Rattle.gasday_part.specs.declared.command.Command.TheVariants.{CheckAllowed, CheckBest, CheckCut, Solve, Calendar}
+use Rattle.gasday_part.specs.declared.command.Command.TheVariants.{CheckAllowed, CheckBest, CheckCut, Solve, Calendar, Day}
 use Rattle.clap.specs.Words.{App, Row, Rule, Text, first_of, new_app, new_rule, subcommand_of, with_rule, with_subcommand}
 
 -- ---- the command line
@@ -21,12 +21,15 @@ solve = new_app (codes "solve")
 abbrev pub calendar : App
 calendar = new_app (codes "calendar")
 
+abbrev pub day : App
+day = new_app (codes "day")
+
 abbrev pub bare : App
 bare = new_app (codes "gasday")
 
 -- the program's command line
 abbrev pub gasday : App
-gasday = with_subcommand (with_subcommand (with_subcommand bare check.top) solve.top) calendar.top
+gasday = with_subcommand (with_subcommand (with_subcommand (with_subcommand bare check.top) solve.top) calendar.top) day.top
 
 -- ---- the meaning of words
 
@@ -45,6 +48,7 @@ command_from name what =
     if bytes_eq name (codes "check") then check_named what
     else if bytes_eq name (codes "solve") then Some Solve
     else if bytes_eq name (codes "calendar") then Some Calendar
+    else if bytes_eq name (codes "day") then Some Day
     else None
 
 -- the command of the subcommand that was met: with none it is `check allowed`
@@ -69,6 +73,7 @@ forms =
     ∷ (codes "check" ∷ codes "cut" ∷ [], CheckCut)
     ∷ (codes "solve" ∷ [], Solve)
     ∷ (codes "calendar" ∷ [], Calendar)
+    ∷ (codes "day" ∷ [], Day)
     ∷ []
 
 -- the forms that ask for help
@@ -78,4 +83,5 @@ helps =
     ∷ (codes "check" ∷ codes "--help" ∷ [])
     ∷ (codes "solve" ∷ codes "--help" ∷ [])
     ∷ (codes "calendar" ∷ codes "--help" ∷ [])
+    ∷ (codes "day" ∷ codes "--help" ∷ [])
     ∷ []

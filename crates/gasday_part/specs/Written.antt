@@ -2,14 +2,8 @@
 use Rattle.std.specs.Prelude.{◌≡◌, ◌⊎◌, ℕ, List, [], ◌∷◌, ◌++◌, Option, take}
 use Rattle.std.specs.Io.KnownBytes.{Appends}
 use Rattle.gd_replies.specs.Lines.{lines_of}
-use Rattle.gd_replies.specs.declared.reply.Reply.{Reply}
-use Rattle.gd_replies.specs.declared.reply.Reply.TheVariants as reply
-use Rattle.gd_text_part.specs.declared.fault.TextFault.TheVariants as fault
 use Rattle.gasday_part.specs.declared.command.Command.{Command}
-use Rattle.gasday_part.specs.Answers.{Told, MayAnswer}
-
-abbrev pub no_memory : Reply
-no_memory = reply.Fault fault.OutOfMemory
+use Rattle.gasday_part.specs.Answers.{Told, MayAnswer, no_memory}
 
 -- What was written of an answer, and the exit status. All of it. Or memory ran out, and what was written are the first of
 -- its rows, whole, and bytes at the front of the row that tells that memory ran out. Or the writer failed, and what was

@@ -1,12 +1,14 @@
 //! What a command answers to a text.
 
-ghost use Rattle.std.specs.Prelude.{◌≡◌, [], ◌∷◌, IfOk, IfSome};
+ghost use Rattle.std.specs.Prelude.{◌≡◌, ◌≢◌, [], ◌∷◌, IfOk, IfSome};
+ghost use Rattle.gd_text_part.specs.declared.fault.TextFault.TheVariants.{OutOfMemory};
 ghost use Rattle.gd_text.specs.Values.{asked_of as asked_by};
 ghost use Rattle.gasday_part.specs.Answers as spec;
 ghost use Rattle.gasday_part.specs.AnswerSeen.{answer_seen};
 
 use crate::certificate::{tell_best, tell_cut};
 use crate::command::Command;
+use crate::course::tell_day;
 use crate::day::tell_calendar;
 use crate::solve::tell_solved;
 use gd_replies::{Reply, allowed_replies, broken_reply};
@@ -14,12 +16,28 @@ use gd_text::{Asked, asked_of};
 use gd_text_part::{Row, TextFault, read_bytes, rows_in};
 use std::alloc::{AllocError, Global};
 use std::io::Read;
+use std::thread::Threads;
 
 /// The rows that answer a text, and the exit status that goes with them.
 #[derive(Drop)]
 pub struct Answer {
     pub replies: Vec<Reply>,
     pub status: u8,
+    /// Memory ran out behind these rows, which is told in a last one.
+    pub short: bool,
+}
+
+impl Answer {
+    /// All rows of an answer.
+    pub(crate) fn whole(replies: Vec<Reply>, status: u8) -> Answer
+        ensures { answer_seen result ≡ record { replies = replies.items; status = status } }
+    {
+        Answer {
+            replies,
+            status,
+            short: false,
+        }
+    }
 }
 
 /// An answer of one row.
@@ -28,13 +46,16 @@ pub(crate) fn of_one(alloc: Global, reply: Reply, status: u8) -> Result<Answer, 
 {
     let mut replies = Vec::new(alloc);
     replies.push(reply)?;
-    Ok(Answer { replies, status })
+    Ok(Answer::whole(replies, status))
 }
 
-/// The answer to a text that could not be read, or whose rows were refused.
+/// The answer to a text that could not be read, or whose rows were refused. Want of memory is handed on as such.
 pub(crate) fn of_fault(alloc: Global, fault: TextFault) -> Result<Answer, AllocError>
-    ensures { IfOk result (λ a. answer_seen a ≡ spec.fault_answer fault) }
+    ensures { IfOk result (λ a. (fault ≢ OutOfMemory) × (answer_seen a ≡ spec.fault_answer fault)) }
 {
+    if matches!(fault, TextFault::OutOfMemory) {
+        return Err(AllocError);
+    }
     of_one(alloc, Reply::Fault(fault), 2)
 }
 
@@ -45,7 +66,7 @@ fn check_allowed(alloc: Global, asked: &Asked) -> Result<Answer, AllocError>
     match asked.schedule.allowed(alloc, &asked.question) {
         Ok(()) => {
             let replies = allowed_replies(alloc, &asked.question, &asked.schedule)?;
-            Ok(Answer { replies, status: 0 })
+            Ok(Answer::whole(replies, 0))
         }
         Err(broken) => {
             let reply = broken_reply(&asked.question, &asked.schedule, broken)?;
@@ -60,13 +81,17 @@ fn tell_allowed(alloc: Global, rows: &[Row]) -> Result<Answer, AllocError>
 {
     match asked_of(alloc, rows) {
         Ok(asked) => check_allowed(alloc, &asked),
-        Err(TextFault::OutOfMemory) => Err(AllocError),
         Err(fault) => of_fault(alloc, fault),
     }
 }
 
 /// What a command answers to the rows of its text.
-fn answer_to_rows(alloc: Global, command: Command, rows: &[Row]) -> Result<Answer, AllocError>
+fn answer_to_rows(
+    rt: &(impl Threads + Sync),
+    alloc: Global,
+    command: Command,
+    rows: &[Row],
+) -> Result<Answer, AllocError>
     ensures { IfOk result (λ a. spec.AnswersRows command rows.now (answer_seen a)) }
 {
     match command {
@@ -75,24 +100,30 @@ fn answer_to_rows(alloc: Global, command: Command, rows: &[Row]) -> Result<Answe
         Command::CheckCut => tell_cut(alloc, rows),
         Command::Solve => tell_solved(alloc, rows),
         Command::Calendar => tell_calendar(alloc, rows),
+        Command::Day => tell_day(rt, alloc, rows),
     }
 }
 
 /// What a command answers to the bytes of a text. The only error is want of memory.
 ///
 /// This is all that a command does between reading and printing.
-pub fn answer_of(alloc: Global, command: Command, text: &[u8]) -> Result<Answer, AllocError>
+pub fn answer_of(
+    rt: &(impl Threads + Sync),
+    alloc: Global,
+    command: Command,
+    text: &[u8],
+) -> Result<Answer, AllocError>
     ensures { IfOk result (λ a. spec.AnswersBytes command text.now (answer_seen a)) }
 {
     match rows_in(alloc, command.form(), text) {
-        Ok(rows) => answer_to_rows(alloc, command, rows.as_slice()),
-        Err(TextFault::OutOfMemory) => Err(AllocError),
+        Ok(rows) => answer_to_rows(rt, alloc, command, rows.as_slice()),
         Err(fault) => of_fault(alloc, fault),
     }
 }
 
 /// What a command answers to all that a reader has left: to its bytes, or to the fault of reading them.
 pub(crate) fn answer_to<R: Read>(
+    rt: &(impl Threads + Sync),
     alloc: Global,
     command: Command,
     reader: &mut R,
@@ -100,8 +131,7 @@ pub(crate) fn answer_to<R: Read>(
     ensures { IfSome (R.remaining reader.old) (λ text. IfOk result (λ a. spec.MayAnswer command text (answer_seen a))) }
 {
     match read_bytes(alloc, reader) {
-        Ok(text) => answer_of(alloc, command, text.as_slice()),
-        Err(TextFault::OutOfMemory) => Err(AllocError),
+        Ok(text) => answer_of(rt, alloc, command, text.as_slice()),
         Err(fault) => of_fault(alloc, fault),
     }
 }

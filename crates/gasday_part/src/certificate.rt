@@ -23,7 +23,7 @@ fn check_prices(alloc: Global, asked: &Asked, prices: &Prices<Tariff>) -> Result
     match check(alloc, &asked.question, &asked.schedule, prices) {
         Ok(()) => {
             let replies = best_replies(alloc, &asked.question, &asked.schedule)?;
-            Ok(Answer { replies, status: 0 })
+            Ok(Answer::whole(replies, 0))
         }
         Err(fault) => {
             let reply = fault_reply(&asked.question, &asked.schedule, prices, fault)?;
@@ -42,7 +42,6 @@ fn check_table(alloc: Global, asked: &Asked, rows: &[Row]) -> Result<Answer, All
             let prices = table.prices(alloc)?;
             check_prices(alloc, asked, &prices)
         }
-        Err(TextFault::OutOfMemory) => Err(AllocError),
         Err(fault) => of_fault(alloc, fault),
     }
 }
@@ -53,7 +52,6 @@ pub(crate) fn tell_best(alloc: Global, rows: &[Row]) -> Result<Answer, AllocErro
 {
     match asked_of(alloc, rows) {
         Ok(asked) => check_table(alloc, &asked, rows),
-        Err(TextFault::OutOfMemory) => Err(AllocError),
         Err(fault) => of_fault(alloc, fault),
     }
 }
@@ -75,7 +73,6 @@ fn check_members(alloc: Global, question: &Question, rows: &[Row]) -> Result<Ans
 {
     match members_of(alloc, rows, question.system()) {
         Ok(table) => check_set(alloc, question, &table.cut()),
-        Err(TextFault::OutOfMemory) => Err(AllocError),
         Err(fault) => of_fault(alloc, fault),
     }
 }
@@ -86,7 +83,6 @@ pub(crate) fn tell_cut(alloc: Global, rows: &[Row]) -> Result<Answer, AllocError
 {
     match question_of(alloc, rows) {
         Ok(question) => check_members(alloc, &question, rows),
-        Err(TextFault::OutOfMemory) => Err(AllocError),
         Err(fault) => of_fault(alloc, fault),
     }
 }

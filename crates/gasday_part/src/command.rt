@@ -21,6 +21,8 @@ pub enum Command {
     Solve,
     /// Tells the moments of a gas day's five cycles, and its hours.
     Calendar,
+    /// Makes the calls of a gas day on its book, and tells what each gives.
+    Day,
 }
 
 impl Command {
@@ -34,6 +36,7 @@ impl Command {
             Command::CheckCut => Form::CheckCut,
             Command::Solve => Form::Solve,
             Command::Calendar => Form::Calendar,
+            Command::Day => Form::Day,
         }
     }
 }
@@ -59,6 +62,7 @@ fn command_from(name: &str, what: Option<&str>) -> Option<Command>
         "check" => check_named(what),
         "solve" => Some(Command::Solve),
         "calendar" => Some(Command::Calendar),
+        "day" => Some(Command::Day),
         _ => None,
     }
 }

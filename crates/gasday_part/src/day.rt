@@ -1,7 +1,6 @@
-//! What is told of a gas day: its calendar, or why it has none.
+//! The calendar of a gas day, and what is told of one.
 
-ghost use Rattle.std.specs.Prelude.{IfOk};
-ghost use Rattle.jiff.specs.Words.{plain_zone};
+ghost use Rattle.std.specs.Prelude.{◌≡◌, ◌≢◌, IfOk, IfErr};
 ghost use Rattle.gd_text.specs.Days.{day_of as day_by};
 ghost use Rattle.gasday_part.specs.Answers as spec;
 ghost use Rattle.gasday_part.specs.AnswerSeen.{answer_seen};
@@ -14,30 +13,60 @@ use gd_text_part::{CivilDate, Row, ZoneText};
 use jiff::tz::TimeZone;
 use std::alloc::{AllocError, Global};
 
-/// The calendar that a zone gives a gas day.
-fn tell_zone(alloc: Global, day: GasDay, zone: &TimeZone<'_>) -> Result<Answer, AllocError>
-    ensures { IfOk result (λ a. spec.TellsZone (plain_zone zone.now) day (answer_seen a)) }
+/// Why a date has no calendar in a zone.
+#[derive(Clone, Copy, Debug, PartialEq, Eq, Drop)]
+pub(crate) enum DayFault {
+    /// The date is none of the gas days that there are.
+    OutOfRange,
+    /// The zone is no POSIX rule, or it gives the gas day no calendar.
+    BadZone,
+    /// Memory was refused.
+    OutOfMemory,
+}
+
+/// The calendar of the gas day of a date, in the zone that a text gives.
+pub(crate) fn calendar_of(
+    alloc: Global,
+    date: CivilDate,
+    zone: &ZoneText,
+) -> Result<Calendar, DayFault>
+    ensures ok { IfOk result (λ calendar. spec.IsCalendarIn date zone.now calendar) }
+    ensures err { IfErr result (spec.ExplainsDay date zone.now) }
 {
-    match Calendar::new(alloc, day, zone) {
-        Ok(calendar) => {
-            let replies = calendar_replies(alloc, &calendar)?;
-            Ok(Answer { replies, status: 0 })
-        }
-        Err(CalendarFault::BadZone) => of_one(alloc, Reply::BadZone, 1),
-        Err(CalendarFault::OutOfMemory) => Err(AllocError),
+    let Ok(day) = GasDay::new(date.date()) else {
+        return Err(DayFault::OutOfRange);
+    };
+    let Ok(zone) = TimeZone::posix(zone.as_str()) else {
+        return Err(DayFault::BadZone);
+    };
+    match Calendar::new(alloc, day, &zone) {
+        Ok(calendar) => Ok(calendar),
+        Err(CalendarFault::BadZone) => Err(DayFault::BadZone),
+        Err(CalendarFault::OutOfMemory) => Err(DayFault::OutOfMemory),
+    }
+}
+
+/// The answer to a date that has no calendar. Want of memory is handed on as such.
+pub(crate) fn of_no_calendar(alloc: Global, fault: DayFault) -> Result<Answer, AllocError>
+    ensures { IfOk result (λ a. (fault ≢ DayFault.OutOfMemory) × (answer_seen a ≡ spec.refused (spec.no_calendar fault))) }
+{
+    match fault {
+        DayFault::OutOfRange => of_one(alloc, Reply::OutOfRange, 1),
+        DayFault::BadZone => of_one(alloc, Reply::BadZone, 1),
+        DayFault::OutOfMemory => Err(AllocError),
     }
 }
 
 /// The calendar of the gas day of a date, in the zone that a text gives.
-fn tell_day(alloc: Global, date: CivilDate, zone: &ZoneText) -> Result<Answer, AllocError>
-    ensures { IfOk result (λ a. spec.TellsDate date zone.now (answer_seen a)) }
+fn tell_date(alloc: Global, date: CivilDate, zone: &ZoneText) -> Result<Answer, AllocError>
+    ensures { IfOk result (λ a. spec.TellsDate spec.TellsMoments date zone.now (answer_seen a)) }
 {
-    let Ok(day) = GasDay::new(date.date()) else {
-        return of_one(alloc, Reply::OutOfRange, 1);
-    };
-    match TimeZone::posix(zone.as_str()) {
-        Ok(zone) => tell_zone(alloc, day, &zone),
-        Err(_) => of_one(alloc, Reply::BadZone, 1),
+    match calendar_of(alloc, date, zone) {
+        Ok(calendar) => {
+            let replies = calendar_replies(alloc, &calendar)?;
+            Ok(Answer::whole(replies, 0))
+        }
+        Err(fault) => of_no_calendar(alloc, fault),
     }
 }
 
@@ -46,7 +75,7 @@ pub(crate) fn tell_calendar(alloc: Global, rows: &[Row]) -> Result<Answer, Alloc
     ensures { IfOk result (λ a. spec.TellsCalendar (day_by rows.now) (answer_seen a)) }
 {
     match day_of(rows) {
-        Ok((date, zone)) => tell_day(alloc, date, zone),
+        Ok((date, zone)) => tell_date(alloc, date, zone),
         Err(fault) => of_fault(alloc, fault),
     }
 }

@@ -1,9 +1,11 @@
 //! A command from the bytes of a reader to the bytes of a writer.
 
-ghost use Rattle.std.specs.Prelude.{◌≡◌, ◌≤◌, ℕ, [], ◌∷◌, IfSome, length, take};
+ghost use Rattle.std.specs.Prelude.{◌≡◌, ◌≤◌, ℕ, [], ◌∷◌, ◌++◌, IfSome, length, take};
 ghost use Rattle.std.specs.Io.KnownBytes.{Appends};
 ghost use Rattle.gd_replies.specs.Lines.{lines_of};
-ghost use Rattle.gasday_part.specs.Written.{Answers, Written, no_memory};
+ghost use Rattle.gasday_part.specs.AnswerSeen.{last_row};
+ghost use Rattle.gasday_part.specs.Answers.{no_memory};
+ghost use Rattle.gasday_part.specs.Written.{Answers, Written};
 
 use crate::answer::answer_to;
 use crate::command::Command;
@@ -11,10 +13,13 @@ use gd_replies::Reply;
 use gd_text_part::write_bytes;
 use std::alloc::Global;
 use std::io::{Read, Write};
+use std::thread::Threads;
 
-/// Prints replies in order. Answers the status, or 2 where not all was written.
-fn tell<W: Write>(alloc: Global, writer: &mut W, replies: &[Reply], status: u8) -> u8
-    ensures { Written (W.contents writer.old) (W.contents writer.new) result (record { replies = replies.now; status = status }) }
+/// Prints replies in order, and behind them that memory ran out, where it did. Answers the status, or 2 where not all was
+/// written.
+fn tell<W: Write>(alloc: Global, writer: &mut W, replies: &[Reply], short: bool, status: u8) -> u8
+    ensures { Written (W.contents writer.old) (W.contents writer.new) result
+        (record { replies = replies.now ++ last_row short; status = status }) }
 {
     'replies: for reply in replies {
         let Ok(line) = reply.to_string(alloc) else {
@@ -23,6 +28,9 @@ fn tell<W: Write>(alloc: Global, writer: &mut W, replies: &[Reply], status: u8) 
         if write_bytes(writer, line.as_bytes()).is_err() {
             return 2;
         }
+    }
+    if short {
+        return tell_no_memory(writer);
     }
     status
 }
@@ -42,11 +50,23 @@ fn tell_no_memory<W: Write>(writer: &mut W) -> u8
 ///
 /// Where memory runs out, the first rows of the answer are followed by `fault,0,OutOfMemory` or by nothing. After a
 /// failed write nothing more is written.
-pub fn run<R: Read, W: Write>(alloc: Global, command: Command, reader: &mut R, writer: &mut W) -> u8
+pub fn run<R: Read, W: Write>(
+    rt: &(impl Threads + Sync),
+    alloc: Global,
+    command: Command,
+    reader: &mut R,
+    writer: &mut W,
+) -> u8
     ensures { IfSome (R.remaining reader.old) (λ text. Answers command text (W.contents writer.old) (W.contents writer.new) result) }
 {
-    match answer_to(alloc, command, reader) {
-        Ok(answer) => tell(alloc, writer, answer.replies.as_slice(), answer.status),
+    match answer_to(rt, alloc, command, reader) {
+        Ok(answer) => tell(
+            alloc,
+            writer,
+            answer.replies.as_slice(),
+            answer.short,
+            answer.status,
+        ),
         Err(_) => tell_no_memory(writer),
     }
 }

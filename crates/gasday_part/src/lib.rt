@@ -9,6 +9,7 @@
 mod answer;
 mod certificate;
 mod command;
+mod course;
 mod day;
 mod engine;
 mod fault;

@@ -110,6 +110,33 @@ fn calendar<'a>(alloc: Global) -> CommandLine<'a>
         .after_help(AFTER_HELP_OF_CALENDAR)
 }
 
+const ABOUT_DAY: &str = "Makes the calls of a whole gas day, and tells what each gives";
+
+const AFTER_HELP_OF_DAY: &str =
+    "It reads a pipeline, contracts and a gas day: rows segment, point, pool, contract, day and carry; and
+then the calls in order: rows nominate, respond, post, freeze, settle, publish, declare, waive and skip.
+A publish row takes the sched and price rows just before it, a declare row the inside rows.
+For each call it prints what was accepted, or why it was refused:
+  accepted,NUMBER,CYCLE,LINE
+  done,NUMBER
+  frozen,NUMBER,CYCLE,ROUND,LINES       and a bound row for each line
+  published,NUMBER,CYCLE,ROUND          and rows total, sched and bumped
+  declared,NUMBER,CYCLE,ROUND           and the inside rows of the cut
+  refused,CALL,N,NAME,DETAIL,ITEM
+
+Example:
+  gasday day < examples/gas-day/two-cycles.csv";
+
+/// `day`, which takes no words.
+fn day<'a>(alloc: Global) -> CommandLine<'a>
+    ensures app { app_of result ≡ spec.day }
+    ensures local { (out-Command result).has_globals ≡ false }
+{
+    CommandLine::new(alloc, "day")
+        .about(ABOUT_DAY)
+        .after_help(AFTER_HELP_OF_DAY)
+}
+
 /// The program's name, before it has commands.
 fn bare<'a>(alloc: Global) -> CommandLine<'a>
     ensures { app_of result ≡ spec.bare }
@@ -125,5 +152,6 @@ pub(crate) fn gasday<'a>(alloc: Global) -> Result<CommandLine<'a>, AllocError>
 {
     let with_check = bare(alloc).subcommand(check(alloc)?)?;
     let with_solve = with_check.subcommand(solve(alloc))?;
-    with_solve.subcommand(calendar(alloc))
+    let with_calendar = with_solve.subcommand(calendar(alloc))?;
+    with_calendar.subcommand(day(alloc))
 }

@@ -34,7 +34,7 @@ fn tell_schedule(
     ensures { IfOk result (λ a. spec.Solves question.now (answer_seen a)) }
 {
     let replies = solved_replies(alloc, question, schedule, prices)?;
-    Ok(Answer { replies, status: 0 })
+    Ok(Answer::whole(replies, 0))
 }
 
 /// A cut, which shows that no schedule is allowed.
@@ -46,7 +46,7 @@ fn tell_impossible(alloc: Global, question: &Question, cut: &Cut) -> Result<Answ
     match check_cut(question, cut) {
         Ok(excess) => {
             let replies = cut_replies(alloc, question, cut, excess)?;
-            Ok(Answer { replies, status: 1 })
+            Ok(Answer::whole(replies, 1))
         }
         Err(CutFault::Shape) => unreachable!(),
         Err(CutFault::NotCut) => unreachable!(),
@@ -69,7 +69,6 @@ pub(crate) fn tell_solved(alloc: Global, rows: &[Row]) -> Result<Answer, AllocEr
 {
     match question_of(alloc, rows) {
         Ok(question) => tell_solution(alloc, &question),
-        Err(TextFault::OutOfMemory) => Err(AllocError),
         Err(fault) => of_fault(alloc, fault),
     }
 }

@@ -5,6 +5,7 @@ use std::alloc::{AllocError, Global};
 use std::io;
 use std::io::{Read, Write};
 use std::test::Fail;
+use std::thread::Threads;
 
 /// Two lines over a segment of 100, which the schedule fills.
 const TEXT: &[u8] = b"segment,S1,A,B,100,,,
@@ -128,9 +129,13 @@ impl Write for SlowWriter {
 }
 
 /// The status and the answer to what a reader gives.
-fn answer_of(alloc: Global, mut reader: SlowReader<'_>) -> Result<(u8, Vec<u8>), AllocError> {
+fn answer_of(
+    rt: &(impl Threads + Sync),
+    alloc: Global,
+    mut reader: SlowReader<'_>,
+) -> Result<(u8, Vec<u8>), AllocError> {
     let mut answer = Vec::new(alloc);
-    let status = run(alloc, Command::CheckAllowed, &mut reader, &mut answer);
+    let status = run(rt, alloc, Command::CheckAllowed, &mut reader, &mut answer);
     if answer.ends_with(b"fault,0,OutOfMemory,,,,,\n") {
         return Err(AllocError);
     }
@@ -142,10 +147,10 @@ fn answers_at_any_pace(rt: HostRuntime) -> Result<(), Fail> {
     let alloc = rt.alloc();
     let over = text_over_capacity(alloc)?;
     for width in [1, 2, 7, 8192] {
-        let (status, answer) = answer_of(alloc, reader_of(TEXT, width, 0))?;
+        let (status, answer) = answer_of(&rt, alloc, reader_of(TEXT, width, 0))?;
         assert_eq!(rt; answer.as_slice(), ANSWER);
         assert_eq!(rt; status, 0);
-        let (status, answer) = answer_of(alloc, reader_of(over.as_slice(), width, 0))?;
+        let (status, answer) = answer_of(&rt, alloc, reader_of(over.as_slice(), width, 0))?;
         assert_eq!(rt;
             answer.as_slice(),
             b"broken,OverCapacity,S1,,,,,\n".as_slice()
@@ -160,7 +165,7 @@ fn answers_at_any_pace(rt: HostRuntime) -> Result<(), Fail> {
 fn a_read_of_any_number_fails(rt: HostRuntime) -> Result<(), Fail> {
     let reads = TEXT.len() + 1;
     for failing in 1..reads + 2 {
-        let (status, answer) = answer_of(rt.alloc(), reader_of(TEXT, 1, failing))?;
+        let (status, answer) = answer_of(&rt, rt.alloc(), reader_of(TEXT, 1, failing))?;
         if failing <= reads {
             assert_eq!(rt; answer.as_slice(), NO_READ, "at {failing}");
             assert_eq!(rt; status, 2);
@@ -180,7 +185,13 @@ fn a_write_of_any_number_fails(rt: HostRuntime) -> Result<(), Fail> {
         for failing in 0..writes + 2 {
             let mut reader = TEXT;
             let mut writer = writer_of(rt.alloc(), 1, failing, takes_none)?;
-            let status = run(rt.alloc(), Command::CheckAllowed, &mut reader, &mut writer);
+            let status = run(
+                &rt,
+                rt.alloc(),
+                Command::CheckAllowed,
+                &mut reader,
+                &mut writer,
+            );
             if 0 < failing && failing <= writes {
                 assert_eq!(rt; status, 2, "at {failing}");
                 assert_eq!(rt; writer.got.as_slice(), &ANSWER[..failing - 1]);
@@ -201,7 +212,13 @@ fn the_write_of_any_row_fails(rt: HostRuntime) -> Result<(), Fail> {
         for failing in 1..7 {
             let mut reader = TEXT;
             let mut writer = writer_of(rt.alloc(), 8192, failing, takes_none)?;
-            let status = run(rt.alloc(), Command::CheckAllowed, &mut reader, &mut writer);
+            let status = run(
+                &rt,
+                rt.alloc(),
+                Command::CheckAllowed,
+                &mut reader,
+                &mut writer,
+            );
             assert!(rt; ANSWER.starts_with(writer.got.as_slice()), "at {failing}");
             if failing <= 5 {
                 assert_eq!(rt; status, 2, "at {failing}");
@@ -235,7 +252,7 @@ fn whole_rows(cut: usize) -> Option<usize> {
 #[test]
 fn a_text_cut_after_any_byte(rt: HostRuntime) -> Result<(), Fail> {
     for cut in 0..TEXT.len() + 1 {
-        let (status, answer) = answer_of(rt.alloc(), reader_of(&TEXT[..cut], 8192, 0))?;
+        let (status, answer) = answer_of(&rt, rt.alloc(), reader_of(&TEXT[..cut], 8192, 0))?;
         let (wanted, text) = match whole_rows(cut) {
             Some(8) => (0, ANSWER),
             Some(4) => (0, ANSWER_TO_NO_LINES),

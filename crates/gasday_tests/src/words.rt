@@ -3,7 +3,7 @@
 use gasday_part::{Command, UsageFault, command_of};
 use std::test::Fail;
 
-const LINES: [(&[&str], &str); 31] = [
+const LINES: [(&[&str], &str); 34] = [
     (&[], "allowed"),
     (&["gasday"], "allowed"),
     (&["gasday", "check", "allowed"], "allowed"),
@@ -25,6 +25,9 @@ const LINES: [(&[&str], &str); 31] = [
     (&["gasday", "Solve"], "usage"),
     (&["gasday", "calendar", "2026-03-08"], "usage"),
     (&["gasday", "check", "calendar"], "usage"),
+    (&["gasday", "day"], "day"),
+    (&["gasday", "day", "--help"], "help of day"),
+    (&["gasday", "day", "2026-03-08"], "usage"),
     (&["gasday", "nonsense"], "usage"),
     (&["gasday", ""], "usage"),
     (&["gasday", "Check", "allowed"], "usage"),
@@ -45,6 +48,7 @@ fn told(rt: &HostRuntime, words: &[&str]) -> Option<(&'static str, String)> {
         Ok(Command::CheckCut) => Some(("cut", String::new(rt.alloc()))),
         Ok(Command::Solve) => Some(("solve", String::new(rt.alloc()))),
         Ok(Command::Calendar) => Some(("calendar", String::new(rt.alloc()))),
+        Ok(Command::Day) => Some(("day", String::new(rt.alloc()))),
         Err(UsageFault::Help(text)) => Some(("help", text)),
         Err(UsageFault::Usage(text)) => Some(("usage", text)),
         Err(UsageFault::OutOfMemory) => None,
@@ -59,6 +63,10 @@ fn reads_well(answer: &str, text: &str) -> bool {
         }
         "help of calendar" => {
             text.contains("\n  gasday calendar < examples/gas-day.csv\n") && text.ends_with('\n')
+        }
+        "help of day" => {
+            text.contains("\n  gasday day < examples/gas-day/two-cycles.csv\n")
+                && text.ends_with('\n')
         }
         "help" => {
             text.contains("'check allowed'")

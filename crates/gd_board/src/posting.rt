@@ -1,6 +1,6 @@
 //! What is published of a cycle.
 
-ghost use Rattle.std.specs.Prelude.{◌≡◌, IfOk};
+ghost use Rattle.std.specs.Prelude.{◌≡◌, ◌↔◌, IsTrue, IfOk};
 
 use gd_certificate::Prices;
 use gd_cost::Tariff;
@@ -26,6 +26,13 @@ impl Model for Bumped {
     ghost view = { λ b. b.lines.items };
 }
 
+/// Whether both lists have the same lines with as much taken from each.
+fn same_lines(a: &[(u32, Dth)], b: &[(u32, Dth)]) -> bool
+    ensures { IsTrue result ↔ (a.now ≡ b.now) }
+{
+    a == b
+}
+
 impl Bumped {
     /// These lines, in this order.
     pub fn of(lines: Vec<(u32, Dth)>) -> Bumped
@@ -39,6 +46,13 @@ impl Bumped {
         ensures { result.now ≡ self.now }
     {
         self.lines.as_slice()
+    }
+
+    /// Whether both have the same lines in the same order, with as much taken from each. Takes no memory.
+    pub fn same(&self, other: &Bumped) -> bool
+        ensures { IsTrue result ↔ (self.now ≡ other.now) }
+    {
+        same_lines(&self.lines, &other.lines)
     }
 
     /// Another list of the same lines. The only error is want of memory.

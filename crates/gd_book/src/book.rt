@@ -21,7 +21,7 @@ use gd_contracts::Contracts;
 use gd_lines::LineKey;
 use gd_machine::{Event, Refusal, Reply};
 use gd_question::Question;
-use gd_system::Element;
+use gd_system::{Element, System};
 use gd_units::{Dth, End, Moment, Name, Round};
 use std::alloc::{AllocError, Global};
 use std::marker::Model;
@@ -228,6 +228,13 @@ impl Book {
         ensures day { self.new.day ≡ self.old.day }
     {
         self.step(Event::Skip { moment })
+    }
+
+    /// The pipeline of the book.
+    pub fn system(&self) -> &System
+        ensures { result.now ≡ self.now.day.held.pipeline }
+    {
+        self.ledger.opening.contracts().system()
     }
 
     /// The frozen question, if the cycle is frozen.

@@ -53,5 +53,5 @@ pub record AreTablesOf (day : Day) (t : Tables) (h : History) : Type 0 where
   pub few : length h ≤ 1_000_000
   -- what is frozen is one of the five cycles
   pub settled : cycle_of h ≤ 6
-  pub running : is_frozen h ≡ true → cycle_of h ≤ 5
+  pub running : is_frozen h ≡ true → cycle_of h ≤ cycles
   pub few_rounds : round_of h ≤ length h

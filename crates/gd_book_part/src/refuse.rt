@@ -375,7 +375,7 @@ impl Tables {
             return Some(Refusal::NotFrozen);
         };
         if certificate.question().round() != question.round() {
-            return Some(Refusal::StaleRound(question.round()));
+            return Some(Refusal::StaleRound(question.round().number()));
         }
         if !is_for(certificate, question) {
             return Some(Refusal::OtherQuestion);
@@ -403,7 +403,7 @@ impl Tables {
             return Some(Refusal::NotFrozen);
         };
         if round != question.round() {
-            return Some(Refusal::StaleRound(question.round()));
+            return Some(Refusal::StaleRound(question.round().number()));
         }
         if let Err(fault) = check_cut(question, cut) {
             return Some(Refusal::NoCutProof(fault));

@@ -98,6 +98,3 @@ pub fn floor(protected: bool, elapsed: Dth, former: Dth, confirmed: Dth) -> Dth
         elapsed
     }
 }
-
-#[cfg(test)]
-mod tests;

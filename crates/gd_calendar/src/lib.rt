@@ -9,6 +9,3 @@ mod gas_day;
 
 pub use calendar::{Calendar, CalendarFault, Mark};
 pub use gas_day::{GasDay, GasDayFault};
-
-#[cfg(test)]
-mod tests;

@@ -3,3 +3,4 @@ pub mod Paying
 pub mod Passing
 pub mod Searching
 mod Rows
+pub mod Same

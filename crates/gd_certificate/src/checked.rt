@@ -1,6 +1,6 @@
 //! Certificates that passed the check.
 
-ghost use Rattle.std.specs.Prelude.{◌≡◌, map, OnOk, IfOk, IfErr};
+ghost use Rattle.std.specs.Prelude.{◌≡◌, ◌↔◌, IsTrue, map, OnOk, IfOk, IfErr};
 ghost use Rattle.gd_rules.specs.Schedule.{IsAllowed};
 ghost use Rattle.gd_rules.specs.Spread.{IsBest};
 ghost use Rattle.gd_rules.specs.Tariff.{IsPricedByTariff};
@@ -65,6 +65,15 @@ impl Checked {
         ensures { result.now ≡ self.now.prices }
     {
         &self.prices
+    }
+
+    /// Whether both have the same question, schedule and prices. Takes no memory.
+    pub fn same(&self, other: &Checked) -> bool
+        ensures { IsTrue result ↔ (self.now ≡ other.now) }
+    {
+        self.question.same(&other.question)
+            && self.schedule.same(&other.schedule)
+            && self.prices.same(&other.prices)
     }
 
     /// The same three once more, which passed with them. The only error is want of memory.

@@ -1,6 +1,6 @@
 //! The check of a cut.
 
-ghost use Rattle.std.specs.Prelude.{◌≡◌, ℕ, pos, ◌<◌, ◌≤◌, length, IfOk, IfErr, List, get_or, false};
+ghost use Rattle.std.specs.Prelude.{◌≡◌, ◌↔◌, IsTrue, ℕ, pos, ◌<◌, ◌≤◌, length, IfOk, IfErr, List, get_or, false};
 ghost use Rattle.gd_rules.specs.Question.{element as asked_element};
 ghost use Rattle.gd_rules.specs.Schedule.{IsAllowed};
 ghost use Rattle.gd_rules.specs.Cut.{has_place, has_end, way_out, must_leave, may_enter, can_leave, excess};
@@ -46,6 +46,13 @@ fn entry(bits: &[bool], at: usize) -> bool
     at < bits.len() && bits[at]
 }
 
+/// Whether both lists have the same entries in the same order.
+fn same_entries(a: &[bool], b: &[bool]) -> bool
+    ensures { IsTrue result ↔ (a.now ≡ b.now) }
+{
+    a == b
+}
+
 impl Cut {
     /// The set of the places, points and pools whose entry is true.
     pub fn of(places: Vec<bool>, points: Vec<bool>, pools: Vec<bool>) -> Cut
@@ -78,6 +85,15 @@ impl Cut {
         ensures { result.now ≡ self.now.pools }
     {
         self.pools.as_slice()
+    }
+
+    /// Whether both have the same entries. Takes no memory.
+    pub fn same(&self, other: &Cut) -> bool
+        ensures { IsTrue result ↔ (self.now ≡ other.now) }
+    {
+        same_entries(&self.places, &other.places)
+            && same_entries(&self.points, &other.points)
+            && same_entries(&self.pools, &other.pools)
     }
 
     /// The same set once more. The only error is want of memory.

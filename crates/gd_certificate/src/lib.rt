@@ -3,7 +3,7 @@
 //! Lines and elements are counted from 0, in the question's order. Only the calls that are handed an allocator take memory.
 #![tactic(auto)]
 
-ghost use Rattle.std.specs.Prelude.{◌≡◌, IfOk};
+ghost use Rattle.std.specs.Prelude.{◌≡◌, ◌↔◌, IsTrue, IfOk};
 
 mod best;
 mod checked;
@@ -17,7 +17,7 @@ mod par;
 pub use best::{check, check_classes};
 pub use checked::{Checked, check_par};
 pub use cut::{Cut, CutFault, check_cut};
-use gd_cost::Cost;
+use gd_cost::{Cost, Tariff};
 use gd_question::Element;
 use gd_schedule::Broken;
 use std::alloc::{AllocError, Global};
@@ -83,5 +83,21 @@ impl<C: Cost> Prices<C> {
     {
         let values = Vec::from_slice(alloc, &self.values)?;
         Ok(Prices { values })
+    }
+}
+
+/// Whether both lists have the same prices in the same order.
+fn same_prices(a: &[Tariff], b: &[Tariff]) -> bool
+    ensures { IsTrue result ↔ (a.now ≡ b.now) }
+{
+    a == b
+}
+
+impl Prices<Tariff> {
+    /// Whether both have the same prices in the same order. Takes no memory.
+    pub fn same(&self, other: &Prices<Tariff>) -> bool
+        ensures { IsTrue result ↔ (self.now ≡ other.now) }
+    {
+        same_prices(&self.values, &other.values)
     }
 }

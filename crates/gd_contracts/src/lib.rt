@@ -36,6 +36,3 @@ pub enum ClassFault {
     /// No route leads from the origin to the destination. The reason is never `RouteFault::OutOfMemory`.
     Route(RouteFault),
 }
-
-#[cfg(test)]
-mod tests;

@@ -18,9 +18,6 @@ pub use one::One;
 pub use pair::Pair;
 use std::cmp::Ordering;
 
-#[cfg(test)]
-mod tests;
-
 /// A value that means a list of whole numbers, with an exact sum, difference, multiple and comparison (own).
 ///
 /// Values are a commutative group with a total order that adding keeps, whatever their kind.

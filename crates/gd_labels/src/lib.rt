@@ -14,9 +14,6 @@ use gd_cost::Cost;
 use search::Search;
 use std::alloc::{AllocError, Global};
 
-#[cfg(test)]
-mod tests;
-
 /// Links from node to node, by their numbers, each with what it gains. The three lists are of one length.
 #[derive(Drop)]
 pub struct Links<C> {

@@ -15,6 +15,3 @@ pub use lines::Lines;
 
 /// How many lines a gas day may have (own limit).
 pub const MAX_LINES: usize = 20_000;
-
-#[cfg(test)]
-mod tests;

@@ -1,5 +1,6 @@
 -- What a gas day's book does, whatever calls come in whatever order: said of every legal history.
 use Rattle.std.specs.Prelude.{◌≡◌, ℕ, ◌+◌, ◌<◌, ◌≤◌, List, length, take, slice_get, Some}
+use Rattle.gd_rules.specs.Limits.{cycles}
 use Rattle.gd_rules.specs.Schedule.{IsAllowed}
 use Rattle.gd_rules.specs.Spread.{IsBest}
 use Rattle.gd_rules.specs.Lines.{Nomination, until, intake}
@@ -41,7 +42,7 @@ taken_in day h cycle = length (intake (nominations day h) cycle)
 abbrev pub StandsInOne : Day → History → Type 0
 StandsInOne day h =
     (k : ℕ) (p : Event × Reply) (n : Nomination) → IsAt h k p → nomination_of day p ≡ Some n
-    → (1 ≤ n.cycle) × (n.cycle ≤ 5)
+    → (1 ≤ n.cycle) × (n.cycle ≤ cycles)
     × (taken_in day (take (k + 1) h) n.cycle ≡ taken_in day (take k h) n.cycle + 1)
     × ((other : ℕ) → (other ≡ n.cycle → ⊥) → intake (nominations day (take (k + 1) h)) other ≡ intake (nominations day (take k h)) other)
 

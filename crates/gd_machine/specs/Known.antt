@@ -3,7 +3,7 @@ use Rattle.std.specs.Prelude.{◌≡◌, ℕ, true, ◌<◌, ◌≤◌, All, Som
 use Rattle.gd_rules.specs.GasDay as gas_day
 use Rattle.gd_rules.specs.Bounds as bounds
 use Rattle.gd_rules.specs.Lines.{Key}
-use Rattle.gd_rules.specs.Limits.{classes}
+use Rattle.gd_rules.specs.Limits.{classes, cycles}
 use Rattle.gd_system.specs.Route.{ends_of}
 use Rattle.gd_system.specs.declared.part.Ends.{Ends}
 use Rattle.gd_contracts.specs.Classes.{class_told}
@@ -29,7 +29,7 @@ pub record IsSound (day : Day) (h : History) : Type 0 where
   pub classed : All (λ n. IsClassed day n.key) (nominations day h)
   -- and for a cycle that is not after that of a nomination made now
   pub rising : (stamp cycle : ℕ) → last_stamp h ≤ stamp → cycle_at day stamp ≡ Some cycle → All (λ n. n.cycle ≤ cycle) (nominations day h)
-  pub in_day : All (λ n. (1 ≤ n.cycle) × (n.cycle ≤ 5)) (nominations day h)
+  pub in_day : All (λ n. (1 ≤ n.cycle) × (n.cycle ≤ cycles)) (nominations day h)
   -- while a cycle is frozen every nomination made now is for a later one
   pub past : is_frozen h ≡ true → (stamp cycle : ℕ) → last_stamp h ≤ stamp → cycle_at day stamp ≡ Some cycle → cycle_of h < cycle
   -- no more has flowed of a line than its schedule in effect

@@ -2,6 +2,7 @@
 use Rattle.std.specs.Prelude.{◌≡◌, ℕ, ◌+◌, ◌==◌, ◌&&◌, Bool, true, false, not, nat_le, nat_lt, List, [], ◌∷◌, ◌++◌, length, take, get_or, slice_get, is_some, Option, Some, None, Result, Ok, Err, if◌then◌else◌, ◌≤◌, ◌⊎◌}
 use Rattle.std.specs.Option.{is_none, unwrap_or}
 use Rattle.std.specs.Result.{is_err}
+use Rattle.gd_rules.specs.Limits.{cycles}
 use Rattle.gd_rules.specs.Question.{Question}
 use Rattle.gd_rules.specs.Question.Element.{Pool}
 use Rattle.gd_rules.specs.Cut.{Side, must_leave, may_enter, can_leave}
@@ -21,6 +22,7 @@ use Rattle.gd_certificate.specs.Checked.{IsRight}
 use Rattle.gd_certificate.specs.Cutting.{Members, side_of}
 use Rattle.gd_certificate.specs.declared.cut.CutFault.TheVariants.{Shape, NotCut}
 use Rattle.std.specs.List.{position_or_len}
+use Rattle.gd_machine.specs.declared.TheConstants.{MAX_EVENTS}
 use Rattle.gd_machine.specs.declared.event.Event.{Event}
 use Rattle.gd_machine.specs.declared.event.Event.TheVariants.{Nominate, Respond, PostCapacity, Freeze, Publish, Declare, Waive, Skip}
 use Rattle.gd_machine.specs.declared.reply.Reply.{Reply}
@@ -36,10 +38,10 @@ use Rattle.gd_machine.specs.Same.{same_question}
 
 -- All five cycles are over.
 abbrev pub is_settled : History → Bool
-is_settled h = nat_lt 5 (cycle_of h)
+is_settled h = nat_lt cycles (cycle_of h)
 
 abbrev pub is_full : History → Bool
-is_full h = nat_le 1000000 (length h)
+is_full h = nat_le MAX_EVENTS (length h)
 
 -- The party is the shipper of the contract, if there is one.
 abbrev pub is_shipper : Option Contract → List ℕ → Bool

@@ -1,6 +1,6 @@
 //! What a book is asked.
 
-ghost use Rattle.std.specs.Prelude.{◌≡◌, IfOk};
+ghost use Rattle.std.specs.Prelude.{◌≡◌, ◌↔◌, IsTrue, IfOk};
 
 use gd_certificate::{Checked, Cut};
 use gd_lines::LineKey;
@@ -74,6 +74,86 @@ impl Event {
             | Event::Declare { moment, .. }
             | Event::Waive { moment, .. }
             | Event::Skip { moment } => *moment,
+        }
+    }
+
+    /// Whether both are the same call at the same moment, with the same handed in. Takes no memory.
+    pub fn same(&self, other: &Event) -> bool
+        ensures { IsTrue result ↔ (self.now ≡ other.now) }
+    {
+        match (self, other) {
+            (
+                Event::Nominate {
+                    moment,
+                    party,
+                    key,
+                    quantity,
+                },
+                Event::Nominate {
+                    moment: at,
+                    party: who,
+                    key: line,
+                    quantity: much,
+                },
+            ) => moment == at && party == who && key == line && quantity == much,
+            (
+                Event::Respond {
+                    moment,
+                    party,
+                    line,
+                    end,
+                    quantity,
+                },
+                Event::Respond {
+                    moment: at,
+                    party: who,
+                    line: which,
+                    end: side,
+                    quantity: much,
+                },
+            ) => {
+                moment == at && party == who && line == which && end == side && quantity == much
+            }
+            (
+                Event::PostCapacity {
+                    moment,
+                    element,
+                    capacity,
+                },
+                Event::PostCapacity {
+                    moment: at,
+                    element: what,
+                    capacity: much,
+                },
+            ) => moment == at && element == what && capacity == much,
+            (Event::Freeze { moment }, Event::Freeze { moment: at }) => moment == at,
+            (
+                Event::Publish {
+                    moment,
+                    certificate,
+                },
+                Event::Publish {
+                    moment: at,
+                    certificate: other,
+                },
+            ) => moment == at && certificate.same(other),
+            (
+                Event::Declare { moment, round, cut },
+                Event::Declare {
+                    moment: at,
+                    round: which,
+                    cut: other,
+                },
+            ) => moment == at && round == which && cut.same(other),
+            (
+                Event::Waive { moment, line },
+                Event::Waive {
+                    moment: at,
+                    line: which,
+                },
+            ) => moment == at && line == which,
+            (Event::Skip { moment }, Event::Skip { moment: at }) => moment == at,
+            _ => false,
         }
     }
 

@@ -6,7 +6,6 @@ ghost use Rattle.gd_machine.specs.declared.refusal.Refusal.TheVariants.{OutOfMem
 
 use gd_certificate::CutFault;
 use gd_system::RouteFault;
-use gd_units::Round;
 use std::alloc::AllocError;
 use std::fmt;
 
@@ -44,8 +43,8 @@ pub enum Refusal {
     TooEarly,
     /// The cycle is not frozen.
     NotFrozen,
-    /// The round is not the current one, which is told.
-    StaleRound(Round),
+    /// The round is not the current one, whose number is told.
+    StaleRound(u32),
     /// The certificate is not for the frozen question.
     OtherQuestion,
     /// The set does not show that no schedule is allowed.

@@ -1,6 +1,6 @@
 //! What a book answers.
 
-ghost use Rattle.std.specs.Prelude.{◌≡◌, IfOk};
+ghost use Rattle.std.specs.Prelude.{◌≡◌, ◌↔◌, IsTrue, IfOk};
 
 use gd_board::Bumped;
 use gd_units::{CycleNo, Round};
@@ -42,6 +42,68 @@ pub enum Reply {
 }
 
 impl Reply {
+    /// Whether both are the same reply. Takes no memory.
+    pub fn same(&self, other: &Reply) -> bool
+        ensures { IsTrue result ↔ (self.now ≡ other.now) }
+    {
+        match (self, other) {
+            (
+                Reply::Accepted {
+                    number,
+                    cycle,
+                    line,
+                },
+                Reply::Accepted {
+                    number: n,
+                    cycle: c,
+                    line: l,
+                },
+            ) => number == n && cycle == c && line == l,
+            (Reply::Done { number }, Reply::Done { number: n }) => number == n,
+            (
+                Reply::Frozen {
+                    number,
+                    cycle,
+                    round,
+                    lines,
+                },
+                Reply::Frozen {
+                    number: n,
+                    cycle: c,
+                    round: r,
+                    lines: l,
+                },
+            ) => number == n && cycle == c && round == r && lines == l,
+            (
+                Reply::Published {
+                    number,
+                    cycle,
+                    round,
+                    bumped,
+                },
+                Reply::Published {
+                    number: n,
+                    cycle: c,
+                    round: r,
+                    bumped: b,
+                },
+            ) => number == n && cycle == c && round == r && bumped.same(b),
+            (
+                Reply::Declared {
+                    number,
+                    cycle,
+                    round,
+                },
+                Reply::Declared {
+                    number: n,
+                    cycle: c,
+                    round: r,
+                },
+            ) => number == n && cycle == c && round == r,
+            _ => false,
+        }
+    }
+
     /// The same reply once more. The only error is want of memory.
     pub fn try_clone(&self, alloc: Global) -> Result<Reply, AllocError>
         ensures { IfOk result (λ copy. copy ≡ self.now) }

@@ -13,7 +13,7 @@ use Rattle.gd_text_part.specs.declared.row.Member.{Member}
 use Rattle.gd_text_part.specs.declared.row.Member.TheVariants as member
 use Rattle.gd_replies.specs.declared.reply.Reply.{Reply}
 use Rattle.gd_replies.specs.declared.reply.Reply.TheVariants as reply
-use Rattle.gd_replies.specs.Replies.{element_rows, price_rows, inside_rows, cut_rows}
+use Rattle.gd_replies.specs.Replies.{element_rows, price_rows, inside_rows, set_rows}
 
 -- the first rows of the rest are appended
 pub told_more : (rows new added rest rest' total : List Reply) → new ≡ rows ++ added → rest ≡ added ++ rest' → rows ++ rest ≡ total → new ++ rest' ≡ total
@@ -102,15 +102,15 @@ pub pools_are : (kind : Member) (p : Pipeline) (inside : List Bool) → length p
 pools_are kind p inside named =
     ap (λ l. inside_rows kind l inside) (drop_at (p.segments ++ first_names p) (last_names p) (length p.tree + length p.points) (omega (arith, named, length-append p.segments (first_names p), length-map p.points (λ e. e.0))))
 
--- the rows of a cut, one kind of member after the other
-pub cut_told : (p : Pipeline) (cut : Members) (excess : ℕ) (first second third last : List Reply) → length p.segments ≡ length p.tree → length cut.points ≡ length p.points
-    → first ≡ reply.Cut excess ∷ []
-    → second ≡ first ++ inside_rows member.Place p.places cut.places
-    → third ≡ second ++ inside_rows member.Point (drop (length p.tree) (names_of p)) cut.points
-    → last ≡ third ++ inside_rows member.Pool (drop (length p.tree + length p.points) (names_of p)) cut.pools
-    → last ≡ cut_rows p cut excess
-cut_told p cut excess first second third last named long one two three four =
-    four ∙ ap (λ l. third ++ l) (pools_are member.Pool p cut.pools named)
-    ∙ ap (λ l. l ++ inside_rows member.Pool (last_names p) cut.pools)
-    (three ∙ ap (λ l. second ++ l) (points_are member.Point p cut.points named long)
-    ∙ ap (λ l. l ++ inside_rows member.Point (first_names p) cut.points) (two ∙ ap (λ l. l ++ inside_rows member.Place p.places cut.places) one))
+-- the rows of a set, one kind of member after the other
+pub set_told : (told : Reply) (p : Pipeline) (set : Members) (first second third last : List Reply) → length p.segments ≡ length p.tree → length set.points ≡ length p.points
+    → first ≡ told ∷ []
+    → second ≡ first ++ inside_rows member.Place p.places set.places
+    → third ≡ second ++ inside_rows member.Point (drop (length p.tree) (names_of p)) set.points
+    → last ≡ third ++ inside_rows member.Pool (drop (length p.tree + length p.points) (names_of p)) set.pools
+    → last ≡ set_rows told p set
+set_told told p set first second third last named long one two three four =
+    four ∙ ap (λ l. third ++ l) (pools_are member.Pool p set.pools named)
+    ∙ ap (λ l. l ++ inside_rows member.Pool (last_names p) set.pools)
+    (three ∙ ap (λ l. second ++ l) (points_are member.Point p set.points named long)
+    ∙ ap (λ l. l ++ inside_rows member.Point (first_names p) set.points) (two ∙ ap (λ l. l ++ inside_rows member.Place p.places set.places) one))

@@ -1,3 +1,5 @@
 pub mod Calendars
+pub mod Calls
+pub mod Days
 pub mod Lines
 pub mod Replies

@@ -3,6 +3,10 @@ use Rattle.std.specs.Prelude.{ℕ, ◌-◌, ◌==◌, ℤ, unsigned_abs, codes, 
 use Rattle.std.specs.Prelude.{List, [], ◌∷◌, ◌++◌, length, replicate}
 use Rattle.std.specs.List.{flat_map, join_with_byte}
 use Rattle.std.specs.Fmt.{decimal, signed_decimal}
+use Rattle.gd_certificate.specs.Names.{cert_fault_name}
+use Rattle.gd_certificate.specs.declared.CertFault.{CertFault}
+use Rattle.gd_machine.specs.Names.{refusal_name}
+use Rattle.gd_replies.specs.Calls.{call_name, refusal_number, refusal_detail}
 use Rattle.gd_text_part.specs.Causes.{fault_row, fault_name, fault_detail}
 use Rattle.gd_text_part.specs.declared.row.TheConstants.{FIELD_COUNT}
 use Rattle.gd_text_part.specs.declared.row.Member.{Member}
@@ -27,6 +31,11 @@ member_name member.Pool = codes "pool"
 abbrev pub spread_field : ℤ → List ℕ
 spread_field spread = if unsigned_abs spread == 0 then [] else signed_decimal spread
 
+-- what is to be published is no certificate, and where it is first wrong
+abbrev pub uncertified_fields : CertFault → List ℕ → List (List ℕ)
+uncertified_fields fault item =
+    codes "refused" ∷ codes "publish" ∷ codes "3" ∷ codes "Certificate" ∷ cert_fault_name fault ∷ item ∷ []
+
 abbrev pub fields_of : Reply → List (List ℕ)
 fields_of (reply.Fault f) = codes "fault" ∷ fault_row f ∷ fault_name f ∷ fault_detail f ∷ []
 fields_of reply.Allowed = codes "allowed" ∷ []
@@ -47,6 +56,20 @@ fields_of (reply.Sched i q) = codes "sched" ∷ decimal i ∷ decimal q ∷ []
 fields_of (reply.Price name level word spread) =
     codes "price" ∷ name ∷ decimal level ∷ signed_decimal word ∷ spread_field spread ∷ []
 fields_of (reply.Inside kind name) = codes "inside" ∷ member_name kind ∷ name ∷ []
+fields_of (reply.Accepted n cycle i) = codes "accepted" ∷ decimal n ∷ decimal cycle ∷ decimal i ∷ []
+fields_of (reply.Done n) = codes "done" ∷ decimal n ∷ []
+fields_of (reply.Frozen n cycle round lines) =
+    codes "frozen" ∷ decimal n ∷ decimal cycle ∷ decimal round ∷ decimal lines ∷ []
+fields_of (reply.Bound i class floor ceiling) =
+    codes "bound" ∷ decimal i ∷ decimal class ∷ decimal floor ∷ decimal ceiling ∷ []
+fields_of (reply.Published n cycle round) = codes "published" ∷ decimal n ∷ decimal cycle ∷ decimal round ∷ []
+fields_of (reply.Bumped i q) = codes "bumped" ∷ decimal i ∷ decimal q ∷ []
+fields_of (reply.Declared n cycle round) = codes "declared" ∷ decimal n ∷ decimal cycle ∷ decimal round ∷ []
+fields_of (reply.Refused call refusal) =
+    codes "refused" ∷ call_name call ∷ decimal (refusal_number call refusal) ∷ refusal_name refusal ∷ refusal_detail refusal ∷ []
+fields_of (reply.UncertifiedShape fault) = uncertified_fields fault []
+fields_of (reply.UncertifiedLine fault i) = uncertified_fields fault (decimal i)
+fields_of (reply.UncertifiedElement fault name) = uncertified_fields fault name
 fields_of reply.OutOfRange = codes "refused" ∷ codes "calendar" ∷ codes "1" ∷ codes "OutOfRange" ∷ []
 fields_of reply.BadZone = codes "refused" ∷ codes "calendar" ∷ codes "2" ∷ codes "BadZone" ∷ []
 fields_of (reply.Cycle c leaves received quick confirmed schedules effective) =

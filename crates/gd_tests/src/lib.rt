@@ -6,6 +6,8 @@
 #[cfg(test)]
 mod certificate;
 #[cfg(test)]
+mod days;
+#[cfg(test)]
 mod flow;
 #[cfg(test)]
 mod network;

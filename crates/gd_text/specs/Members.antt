@@ -55,6 +55,10 @@ abbrev pub member_step : Pipeline → ℕ → Members → Row → Result Members
 member_step p n m (row.Inside kind name) = with_member n p m kind name
 member_step p n m r = Ok m
 
--- The set that all rows name, or the first refusal.
+-- The set that all rows name, the first of them row n; or the first refusal.
+abbrev pub members_from : ℕ → List Row → Pipeline → Result Members TextFault
+members_from n rows p = built_from (member_step p) n (none_inside p) rows
+
+-- The same of a text's rows, which are counted from 1.
 abbrev pub members_of : List Row → Pipeline → Result Members TextFault
-members_of rows p = built_from (member_step p) 1 (none_inside p) rows
+members_of rows p = members_from 1 rows p

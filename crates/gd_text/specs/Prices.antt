@@ -52,9 +52,13 @@ abbrev pub price_step : Pipeline → ℕ → Table → Row → Result Table Text
 price_step p n t (row.Price element class word spread) = price_at n t (element_number p element) class word spread
 price_step p n t r = Ok t
 
--- The prices of all rows for the elements of a pipeline, or the first refusal.
+-- The prices of all rows, the first of them row n, for the elements of a pipeline; or the first refusal.
+abbrev pub prices_from : ℕ → List Row → Pipeline → Result Table TextFault
+prices_from n rows p = built_from (price_step p) n (no_prices (length (elements_of p))) rows
+
+-- The same of a text's rows, which are counted from 1.
 abbrev pub prices_of : List Row → Pipeline → Result Table TextFault
-prices_of rows p = built_from (price_step p) 1 (no_prices (length (elements_of p))) rows
+prices_of rows p = prices_from 1 rows p
 
 -- The word of an element at class k + 1.
 abbrev pub word_at : List ℤ → ℕ → ℕ → ℤ

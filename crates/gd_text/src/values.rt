@@ -72,8 +72,9 @@ fn add_part(builder: &mut SystemBuilder, number: u64, row: &Row) -> Result<(), T
     }
 }
 
-/// The system that the rows build.
-fn system_of(alloc: Global, rows: &[Row]) -> Result<System, TextFault>
+/// The system that the rows build, or the first refusal of its builder, told at its row; a missing segment at one row
+/// past the last.
+pub fn system_of(alloc: Global, rows: &[Row]) -> Result<System, TextFault>
     ensures { Builds (λ system. system) result (spec.pipeline_of rows.now) }
 {
     let mut builder = SystemBuilder::new(alloc);
@@ -155,8 +156,8 @@ fn question_about(alloc: Global, rows: &[Row], system: System) -> Result<Questio
     Ok(builder.finish())
 }
 
-/// The quantities of the `sched` rows, in order.
-fn quantities_of(alloc: Global, rows: &[Row]) -> Result<Vec<Dth>, AllocError>
+/// The quantities of the `sched` rows in dekatherms a gas day, in order. The only error is want of memory.
+pub fn quantities_of(alloc: Global, rows: &[Row]) -> Result<Vec<Dth>, AllocError>
     ensures { IfOk result (λ v. v.items ≡ spec.quantities_of rows.now) }
 {
     let mut quantities = Vec::new(alloc);

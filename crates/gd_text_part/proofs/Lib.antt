@@ -1,4 +1,5 @@
 pub mod AllRecords
+mod DayRows
 pub mod Digits
 pub mod EmptyFields
 pub mod RecordsTaken

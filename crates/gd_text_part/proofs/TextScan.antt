@@ -5,7 +5,6 @@ use Rattle.gd_text_part.specs.Places.{row_of, at_end}
 use Rattle.gd_text_part.specs.Rows.{◌>>=◌}
 use Rattle.gd_text_part.specs.Found.{Finds}
 use Rattle.gd_text_part.specs.Texts.{BlamesNoRow, HasManyBytes, HasManyRows, IsWithin, Reads, Tells, rows_from, rows_of}
-use Rattle.gd_text_part.specs.declared.fault.Cause.{Cause}
 use Rattle.gd_text_part.specs.declared.fault.RowFault.{RowFault}
 use Rattle.gd_text_part.specs.declared.fault.TextFault.{TextFault}
 use Rattle.gd_text_part.specs.declared.fault.TextFault.TheVariants as fault
@@ -22,27 +21,27 @@ regroup front r (Ok rows) = ap (λ (rs : List Row). Ok rs) (simp append_assoc)
 regroup front r (Err e) = refl
 
 pub goes_on : (form : Form) (place next : Place) (n : ℕ) (r : Row) (first : List (List ℕ)) (records : List (List (List ℕ))) (front : List Row) (total : Result (List Row) RowFault)
-    → row_of form place first ≡ Ok (r, next) → with_front front (rows_from form place n (first ∷ records)) ≡ total
+    → row_of form place (n + 1) first ≡ Ok (r, next) → with_front front (rows_from form place n (first ∷ records)) ≡ total
     → with_front (front ++ r ∷ []) (rows_from form next (n + 1) records) ≡ total
 unfolding rows_from
 goes_on form place next n r first records front total is so_far =
     let one : with_front front (rows_from form place n (first ∷ records)) ≡ with_front (front ++ r ∷ []) (rows_from form next (n + 1) records) = rw is (regroup front r (rows_from form next (n + 1) records)) in
     sym one ∙ so_far
 
-stops : (form : Form) (place : Place) (n : ℕ) (c : Cause) (first : List (List ℕ)) (records : List (List (List ℕ))) (front : List Row) (total : Result (List Row) RowFault)
-    → row_of form place first ≡ Err c → with_front front (rows_from form place n (first ∷ records)) ≡ total → total ≡ Err (record { row = n + 1; cause = c })
+stops : (form : Form) (place : Place) (n : ℕ) (e : RowFault) (first : List (List ℕ)) (records : List (List (List ℕ))) (front : List Row) (total : Result (List Row) RowFault)
+    → row_of form place (n + 1) first ≡ Err e → with_front front (rows_from form place n (first ∷ records)) ≡ total → total ≡ Err e
 unfolding rows_from
-stops form place n c first records front total is so_far =
-    let one : with_front front (rows_from form place n (first ∷ records)) ≡ Err (record { row = n + 1; cause = c }) = rw is refl in
+stops form place n e first records front total is so_far =
+    let one : with_front front (rows_from form place n (first ∷ records)) ≡ Err e = rw is refl in
     sym so_far ∙ one
 
 -- what is found wrong with a record is told of the text
 pub refuses : {X : Type 0} (view : X → List Row) (form : Form) (text : List ℕ) (place : Place) (m n : ℕ) (e : TextFault) (first : List (List ℕ)) (records : List (List (List ℕ))) (front : List Row)
-    → m ≡ n + 1 → IsWithin text → Finds m (Err e) (row_of form place first) → with_front front (rows_from form place n (first ∷ records)) ≡ rows_of form text → Tells view form text (Err e)
+    → m ≡ n + 1 → IsWithin text → Finds (Err e) (row_of form place m first) → with_front front (rows_from form place n (first ∷ records)) ≡ rows_of form text → Tells view form text (Err e)
 refuses view form text place m n fault.ReadFailed first records front same within found so_far = absurd found
 refuses view form text place m n fault.TooLong first records front same within found so_far = absurd found
 refuses view form text place m n (fault.Row k c) first records front same within found so_far =
-    (within, stops form place n c first records front (rows_of form text) found.1 so_far ∙ ap (λ (at : ℕ). Err (record { row = at; cause = c })) (sym (found.0 ∙ same)))
+    (within, stops form place n (record { row = k; cause = c }) first records front (rows_of form text) (rw same at found) so_far)
 refuses view form text place m n fault.OutOfMemory first records front same within found so_far = tt
 
 pub misses : (form : Form) (place : Place) (n : ℕ) (e : RowFault) (front : List Row) (total : Result (List Row) RowFault)

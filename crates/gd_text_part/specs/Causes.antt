@@ -1,6 +1,7 @@
 -- How faults are printed: what is wrong with a row as its name and a field's number or nothing; and the row before it.
 use Rattle.std.specs.Prelude.{ℕ, List, [], ◌∷◌, ◌++◌, codes}
 use Rattle.std.specs.Fmt.{decimal}
+use Rattle.gd_contracts.specs.Names.{contract_fault_name}
 use Rattle.gd_question.specs.Names.{capacity_fault_name, line_fault_name}
 use Rattle.gd_system.specs.Names.{build_fault_name}
 use Rattle.gd_text_part.specs.declared.fault.Cause.{Cause}
@@ -15,6 +16,7 @@ cause_name cause.Order = codes "Order"
 cause_name (cause.BadField k) = codes "BadField"
 cause_name cause.Missing = codes "Missing"
 cause_name (cause.Build fault) = build_fault_name fault
+cause_name (cause.Contract fault) = contract_fault_name fault
 cause_name (cause.Capacity fault) = capacity_fault_name fault
 cause_name (cause.Line fault) = line_fault_name fault
 cause_name cause.UnknownElement = codes "UnknownElement"

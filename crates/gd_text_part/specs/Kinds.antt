@@ -94,6 +94,28 @@ abbrev pub is_day : RowKind → Bool
 is_day kind.Day = true
 is_day k = false
 
+-- rows of a gas day: all but those that ask a question about a pipeline, and those of sessions
+abbrev pub is_of_day : RowKind → Bool
+is_of_day kind.Question = false
+is_of_day kind.Capacity = false
+is_of_day kind.Line = false
+is_of_day kind.Session = false
+is_of_day kind.Desk = false
+is_of_day k = true
+
+-- rows of a certificate, and the event row that takes them
+abbrev pub is_of_certificate : RowKind → Bool
+is_of_certificate kind.Sched = true
+is_of_certificate kind.Price = true
+is_of_certificate kind.Publish = true
+is_of_certificate k = false
+
+-- rows of a cut, and the event row that takes them
+abbrev pub is_of_cut : RowKind → Bool
+is_of_cut kind.Inside = true
+is_of_cut kind.Declare = true
+is_of_cut k = false
+
 -- whether the command takes rows of this kind
 abbrev pub takes : Form → RowKind → Bool
 takes form.CheckAllowed k = asks k || is_sched k
@@ -101,8 +123,14 @@ takes form.CheckBest k = asks k || is_sched k || is_price k
 takes form.CheckCut k = asks k || is_inside k
 takes form.Solve k = asks k
 takes form.Calendar k = is_day k
+takes form.Day k = is_of_day k
 
 -- whether a `day` row has to name a book
 abbrev pub needs_book : Form → Bool
 needs_book form.Calendar = false
 needs_book f = true
+
+-- whether `sched`, `price` and `inside` rows wait for an event row that takes them
+abbrev pub has_events : Form → Bool
+has_events form.Day = true
+has_events f = false

@@ -1,6 +1,7 @@
 pub mod Causes
 pub mod Csv
 pub mod Dates
+pub mod Events
 pub mod Found
 pub mod Kinds
 pub mod Numbers

@@ -1,9 +1,12 @@
 -- The order of rows: which may follow which, and the first fault of a record.
 use Rattle.std.specs.Prelude.{ℕ, ◌+◌, Bool, true, false, ◌==◌, ◌&&◌, ◌||◌, not, nat_le, if◌then◌else◌}
 use Rattle.std.specs.Prelude.{List, length, Option, Some, None, Result, Ok, Err}
-use Rattle.gd_text_part.specs.Kinds.{kind_of, stage_of, takes, is_sched, needs_book}
-use Rattle.gd_text_part.specs.Rows.{◌>>=◌, field, segment_row, point_row, pool_row, question_row, capacity_row}
-use Rattle.gd_text_part.specs.Rows.{line_row, sched_row, day_row, price_row, inside_row}
+use Rattle.gd_text_part.specs.Events.{event_row}
+use Rattle.gd_text_part.specs.Found.{at_row}
+use Rattle.gd_text_part.specs.Kinds.{kind_of, stage_of, is_sched, is_of_certificate, is_of_cut}
+use Rattle.gd_text_part.specs.Kinds.{takes, needs_book, has_events}
+use Rattle.gd_text_part.specs.Rows.{◌>>=◌, field, segment_row, point_row, pool_row, contract_row, question_row, day_row}
+use Rattle.gd_text_part.specs.Rows.{capacity_row, carry_row, line_row, sched_row, price_row, inside_row}
 use Rattle.gd_text_part.specs.declared.fault.Cause.{Cause}
 use Rattle.gd_text_part.specs.declared.fault.Cause.TheVariants as cause
 use Rattle.gd_text_part.specs.declared.fault.RowFault.{RowFault}
@@ -13,10 +16,12 @@ use Rattle.gd_text_part.specs.declared.kind.Form.{Form}
 use Rattle.gd_text_part.specs.declared.order.Place.{Place}
 use Rattle.gd_text_part.specs.declared.row.Row.{Row}
 use Rattle.gd_text_part.specs.declared.row.TheConstants.{FIELD_COUNT}
+use Rattle.gd_text_part.specs.declared.waiting.Waiting.{Waiting}
+use Rattle.gd_text_part.specs.declared.waiting.Waiting.TheVariants as waiting
 
 -- where a text begins
 abbrev pub start : Place
-start = record { stage = 0; headed = false; scheds = 0 }
+start = record { stage = 0; headed = false; scheds = 0; waiting = waiting.Nothing }
 
 -- the head of a text, which stands once
 abbrev pub is_head : RowKind → Bool
@@ -24,17 +29,59 @@ is_head kind.Question = true
 is_head kind.Day = true
 is_head k = false
 
--- whether a row of this kind may stand here: the command takes it, its stage is not below that of the row
--- before it, and it is no second head
-abbrev pub may_stand : Form → Place → RowKind → Bool
-may_stand form place k = takes form k && nat_le place.stage (stage_of k) && not (is_head k && place.headed)
+-- the least stage of the row behind one of this kind: its own, but behind an event row `sched` rows may stand again
+abbrev pub stage_behind : RowKind → ℕ
+stage_behind k = if stage_of k == 9 then stage_of kind.Sched else stage_of k
 
--- where the rows stand after one of this kind
-abbrev pub after : Place → RowKind → Place
-after place k = record {
-  stage = stage_of k;
+-- the first of the rows that wait, where a row of this kind leaves them over: an event row that doesn't take them, or a
+-- row of the other group
+abbrev pub left_over : Waiting → RowKind → Option ℕ
+left_over waiting.Nothing k = None
+left_over (waiting.Certificate began) k =
+    if nat_le (stage_of kind.Sched) (stage_of k) && not (is_of_certificate k) then Some began else None
+left_over (waiting.Cut began) k =
+    if nat_le (stage_of kind.Sched) (stage_of k) && not (is_of_cut k) then Some began else None
+
+abbrev pub certificate_from : Waiting → ℕ → Waiting
+certificate_from (waiting.Certificate began) n = waiting.Certificate began
+certificate_from w n = waiting.Certificate n
+
+abbrev pub cut_from : Waiting → ℕ → Waiting
+cut_from (waiting.Cut began) n = waiting.Cut began
+cut_from w n = waiting.Cut n
+
+-- what waits behind row n of this kind
+abbrev pub waiting_behind : Waiting → ℕ → RowKind → Waiting
+waiting_behind w n kind.Sched = certificate_from w n
+waiting_behind w n kind.Price = certificate_from w n
+waiting_behind w n kind.Inside = cut_from w n
+waiting_behind w n k = waiting.Nothing
+
+-- whether the stage of a row of this kind is not below the least that may stand here, and it is no second head
+abbrev pub may_stand : Place → RowKind → Bool
+may_stand place k = nat_le place.stage (stage_of k) && not (is_head k && place.headed)
+
+-- row n is out of order
+abbrev pub misplaced : ℕ → RowFault
+misplaced n = record { row = n; cause = cause.Order }
+
+abbrev pub stands_behind : Option ℕ → Place → ℕ → RowKind → Result (Unit {0}) RowFault
+stands_behind (Some began) place n k = Err (misplaced began)
+stands_behind None place n k = if may_stand place k then Ok tt else Err (misplaced n)
+
+-- whether a row of this kind may stand here as row n, asked in this order: the command takes it; it leaves over no rows
+-- that wait, which is told at the first of them; and its stage and the head allow it
+abbrev pub stands : Form → Place → ℕ → RowKind → Result (Unit {0}) RowFault
+stands form place n k =
+    if takes form k then stands_behind (left_over place.waiting k) place n k else Err (misplaced n)
+
+-- where the rows stand after row n of this kind; `sched` rows are counted from 1 again behind each other row
+abbrev pub after : Form → Place → ℕ → RowKind → Place
+after form place n k = record {
+  stage = stage_behind k;
   headed = place.headed || is_head k;
-  scheds = if is_sched k then place.scheds + 1 else place.scheds;
+  scheds = if is_sched k then place.scheds + 1 else 0;
+  waiting = if has_events form then waiting_behind place.waiting n k else waiting.Nothing;
 }
 
 -- the row of this kind that the fields are, or the least bad field
@@ -42,40 +89,43 @@ abbrev pub body : Form → RowKind → Place → List (List ℕ) → Result Row 
 body form kind.Segment place fields = segment_row fields
 body form kind.Point place fields = point_row fields
 body form kind.Pool place fields = pool_row fields
+body form kind.Contract place fields = contract_row fields
 body form kind.Question place fields = question_row fields
 body form kind.Day place fields = day_row (needs_book form) fields
 body form kind.Capacity place fields = capacity_row fields
+body form kind.Carry place fields = carry_row fields
 body form kind.Line place fields = line_row fields
 body form kind.Sched place fields = sched_row (place.scheds + 1) fields
 body form kind.Price place fields = price_row fields
 body form kind.Inside place fields = inside_row fields
-body form k place fields = Err cause.Order
+body form k place fields = event_row k fields
 
-abbrev pub standing : Form → Place → Option RowKind → Result RowKind Cause
-standing form place None = Err cause.UnknownKind
-standing form place (Some k) = if may_stand form place k then Ok k else Err cause.Order
+abbrev pub good_kind : Option RowKind → Result RowKind Cause
+good_kind None = Err cause.UnknownKind
+good_kind (Some k) = Ok k
 
--- the kind of a record that may stand here: the count of fields, the kind, the order
-abbrev pub kind_at : Form → Place → List (List ℕ) → Result RowKind Cause
-kind_at form place fields =
-    if length fields == FIELD_COUNT then standing form place (kind_of (field fields 1)) else Err cause.FieldCount
+-- the kind of a record: the count of fields, then the first of them
+abbrev pub kind_at : List (List ℕ) → Result RowKind Cause
+kind_at fields = if length fields == FIELD_COUNT then good_kind (kind_of (field fields 1)) else Err cause.FieldCount
 
--- the row that a record is and where the rows stand after it, or its first fault, that of its fields last
-abbrev pub row_of : Form → Place → List (List ℕ) → Result (Row × Place) Cause
-row_of form place fields = do
-  kind ← kind_at form place fields
-  row ← body form kind place fields
-  Ok (row, after place kind)
-
--- a fault, told at row n
-abbrev pub at_row : {A : Type 0} → ℕ → Result A Cause → Result A RowFault
-at_row n (Ok x) = Ok x
-at_row n (Err c) = Err (record { row = n; cause = c })
+-- the row that record n is and where the rows stand after it, or the first fault: the count of fields, the kind, the
+-- order, and the fields last
+abbrev pub row_of : Form → Place → ℕ → List (List ℕ) → Result (Row × Place) RowFault
+row_of form place n fields = do
+  kind ← at_row n (kind_at fields)
+  standing ← stands form place n kind
+  row ← at_row n (body form kind place fields)
+  Ok (row, after form place n kind)
 
 -- the head of a text of n rows is missing, which is told at one row past the last
 abbrev pub missing_head : ℕ → RowFault
 missing_head n = record { row = n + 1; cause = cause.Missing }
 
--- the fault that the end of a text of n rows shows
+abbrev pub ended : Waiting → Bool → ℕ → Result (Unit {0}) RowFault
+ended (waiting.Certificate began) headed n = Err (misplaced began)
+ended (waiting.Cut began) headed n = Err (misplaced began)
+ended waiting.Nothing headed n = if headed then Ok tt else Err (missing_head n)
+
+-- the fault that the end of a text of n rows shows: rows that still wait are left over, or the head is missing
 abbrev pub at_end : Place → ℕ → Result (Unit {0}) RowFault
-at_end place n = if place.headed then Ok tt else Err (missing_head n)
+at_end place n = ended place.waiting place.headed n

@@ -1,19 +1,25 @@
 -- What the fields of each kind of row are.
 use Rattle.std.specs.Str.{is_utf8}
 use Rattle.std.specs.Prelude.{ℕ, ℤ, pos, zero, suc, ◌+◌, ◌-◌, ◌==◌, ◌&&◌, nat_le, codes, if◌then◌else◌}
-use Rattle.std.specs.Prelude.{Bool, List, [], length, Option, Some, None, Result, Ok, Err, unwrap_or}
+use Rattle.std.specs.Prelude.{Bool, true, false, List, [], length, Option, Some, None, Result, Ok, Err, unwrap_or}
 use Rattle.csv.specs.Records.{field_at}
-use Rattle.gd_rules.specs.Limits.{most_dekatherms, cycles, most_rounds, classes}
+use Rattle.gd_rules.specs.Limits.{most_dekatherms, cycles, most_rounds, classes, bands, latest_moment}
+use Rattle.gd_rules.specs.Lines.{Key}
 use Rattle.gd_units.specs.Names.{name_of}
 use Rattle.gd_units.specs.declared.name.NameFault.{NameFault}
 use Rattle.gd_units.specs.declared.service.Kind.{Kind}
 use Rattle.gd_units.specs.declared.service.Kind.TheVariants as way
+use Rattle.gd_units.specs.declared.service.End.{End}
+use Rattle.gd_units.specs.declared.service.End.TheVariants as side
+use Rattle.gd_contracts.specs.declared.contract.Service.{Service}
+use Rattle.gd_contracts.specs.declared.contract.Service.TheVariants as service
 use Rattle.gd_text_part.specs.Numbers.{number_of, signed_of}
 use Rattle.gd_text_part.specs.Dates.{YearMonthDay, date_of}
 use Rattle.gd_text_part.specs.Kinds.{is_text}
 use Rattle.gd_text_part.specs.declared.fault.Cause.{Cause}
 use Rattle.gd_text_part.specs.declared.fault.Cause.TheVariants as cause
 use Rattle.gd_text_part.specs.declared.body.TheConstants.{MAX_WRITTEN_CLASS}
+use Rattle.gd_text_part.specs.declared.fields.TheConstants.{MAX_WRITTEN_LINE}
 use Rattle.gd_text_part.specs.declared.row.TheConstants.{FIELD_COUNT}
 use Rattle.gd_text_part.specs.declared.row.Member.{Member}
 use Rattle.gd_text_part.specs.declared.row.Member.TheVariants as member
@@ -99,6 +105,32 @@ text_at fields k =
     else if is_utf8 (field fields k) then Ok (field fields k)
     else Err (cause.BadField k)
 
+abbrev pub moment_at : List (List ℕ) → ℕ → Result ℕ Cause
+moment_at fields k = number_at fields k 0 latest_moment
+
+-- lines are counted from 1
+abbrev pub line_at : List (List ℕ) → ℕ → Result ℕ Cause
+line_at fields k = number_at fields k 1 MAX_WRITTEN_LINE
+
+abbrev pub end_at : List (List ℕ) → ℕ → Result End Cause
+end_at fields k =
+    if is_text (field fields k) (codes "origin") then Ok side.Origin
+    else if is_text (field fields k) (codes "dest") then Ok side.Dest
+    else Err (cause.BadField k)
+
+-- a band, 1 where the field is empty
+abbrev pub band_at : List (List ℕ) → ℕ → Result ℕ Cause
+band_at fields k = if length (field fields k) == 0 then Ok 1 else number_at fields k 1 bands
+
+-- the contract, package, origin and destination that the four fields from k on name
+unfoldable pub key_at : List (List ℕ) → ℕ → Result Key Cause
+key_at fields k = do
+  contract ← name_at fields k
+  parcel ← name_at fields (k + 1)
+  origin ← name_at fields (k + 2)
+  dest ← name_at fields (k + 3)
+  Ok (record { contract = contract; «package» = parcel; origin = origin; dest = dest })
+
 -- the n fields from k on are empty
 unfoldable pub empty_run : List (List ℕ) → ℕ → ℕ → Result (Unit {0}) Cause
 empty_run fields k zero = Ok tt
@@ -134,6 +166,41 @@ pool_row fields = do
   operator ← name_at fields 4
   rest ← empty_from fields 5
   Ok (row.Pipeline (pipeline.Pool name place operator))
+
+-- whether a contract is firm, or interruptible
+abbrev pub is_firm_at : List (List ℕ) → ℕ → Result Bool Cause
+is_firm_at fields k =
+    if is_text (field fields k) (codes "firm") then Ok true
+    else if is_text (field fields k) (codes "interruptible") then Ok false
+    else Err (cause.BadField k)
+
+-- firm service between two ends, or interruptible service at a band
+unfoldable pub service_of : Bool → List (List ℕ) → Result Service Cause
+service_of true fields = do
+  origin ← name_at fields 6
+  dest ← name_at fields 7
+  rest ← empty_from fields 8
+  Ok (service.Firm origin dest)
+service_of false fields = do
+  band ← band_at fields 6
+  rest ← empty_from fields 7
+  Ok (service.Interruptible band)
+
+unfoldable pub contract_row : List (List ℕ) → Result Row Cause
+contract_row fields = do
+  name ← name_at fields 2
+  shipper ← name_at fields 3
+  firm ← is_firm_at fields 4
+  quantity ← quantity_at fields 5
+  service ← service_of firm fields
+  Ok (row.Contract (record { name = name; shipper = shipper; quantity = quantity; service = service }))
+
+unfoldable pub carry_row : List (List ℕ) → Result Row Cause
+carry_row fields = do
+  key ← key_at fields 2
+  quantity ← quantity_at fields 6
+  rest ← empty_from fields 7
+  Ok (row.Carry key quantity)
 
 unfoldable pub question_row : List (List ℕ) → Result Row Cause
 question_row fields = do

@@ -1,7 +1,7 @@
 -- The rows of a text, or its first fault, and what reading a text may answer.
 use Rattle.std.specs.Prelude.{◌≡◌, ◌≤◌, ◌<◌, ◌⊎◌, ℕ, ◌+◌, List, [], ◌∷◌, length, Result, Ok, Err, ⊤}
 use Rattle.gd_text_part.specs.Csv.{records_of}
-use Rattle.gd_text_part.specs.Places.{start, row_of, at_row, at_end}
+use Rattle.gd_text_part.specs.Places.{start, row_of, at_end}
 use Rattle.gd_text_part.specs.Rows.{◌>>=◌}
 use Rattle.gd_text_part.specs.declared.input.TheConstants.{MAX_BYTES, MAX_READS}
 use Rattle.gd_text_part.specs.declared.records.TheConstants.{MAX_ROWS}
@@ -18,7 +18,7 @@ rows_from form place n [] = do
   whole ← at_end place n
   Ok []
 rows_from form place n (fields ∷ records) = do
-  taken ← at_row (n + 1) (row_of form place fields)
+  taken ← row_of form place (n + 1) fields
   rows ← rows_from form taken.1 (n + 1) records
   Ok (taken.0 ∷ rows)
 

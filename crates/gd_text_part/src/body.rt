@@ -3,18 +3,20 @@
 ghost use Rattle.std.specs.Prelude.{◌≡◌, ◌<◌, MatchResult, Ok, Err};
 ghost use Rattle.csv.specs.Records.{fields_of};
 ghost use Rattle.gd_text_part.specs.declared.row.Row.TheVariants as rows;
-ghost use Rattle.gd_text_part.specs.Found.{Finds};
+ghost use Rattle.gd_text_part.specs.Found.{Finds, at_row};
 ghost use Rattle.gd_text_part.specs.Rows as spec;
 
 use crate::date::CivilDate;
 use crate::fault::{Cause, TextFault};
 use crate::fields::{
-    class_at, cycle_at, date_at, empty_from, member_at, name_at, name_or_none_at, number_at,
-    point_kind_at, quantity_at, round_at, signed_at, signed_or_zero_at, text_at,
+    band_at, class_at, cycle_at, date_at, empty_from, is_firm_at, key_at, member_at, name_at,
+    name_or_none_at, number_at, point_kind_at, quantity_at, round_at, signed_at, signed_or_zero_at,
+    text_at,
 };
 use crate::row::{PipelineRow, QuestionRow, Row};
 use crate::zone::ZoneText;
 use csv::ByteRecord;
+use gd_contracts::{Contract, Service};
 use gd_units::Name;
 use std::alloc::Global;
 
@@ -70,6 +72,50 @@ pub(crate) fn pool_row(row: &ByteRecord) -> Result<Row, Cause>
         place,
         operator,
     }))
+}
+
+/// Firm service between two ends, or interruptible service at a band.
+#[tactic(auto, unfolding(crate::specs::Rows::service_of))]
+fn service_of(firm: bool, row: &ByteRecord) -> Result<Service, Cause>
+    ensures { result ≡ spec.service_of firm (fields_of row.now) }
+{
+    if firm {
+        let origin = name_at(row, 6)?;
+        let dest = name_at(row, 7)?;
+        empty_from(row, 8)?;
+        Ok(Service::Firm { origin, dest })
+    } else {
+        let band = band_at(row, 6)?;
+        empty_from(row, 7)?;
+        Ok(Service::Interruptible { band })
+    }
+}
+
+#[tactic(auto, unfolding(crate::specs::Rows::contract_row))]
+pub(crate) fn contract_row(row: &ByteRecord) -> Result<Row, Cause>
+    ensures { result ≡ spec.contract_row (fields_of row.now) }
+{
+    let name = name_at(row, 2)?;
+    let shipper = name_at(row, 3)?;
+    let firm = is_firm_at(row, 4)?;
+    let quantity = quantity_at(row, 5)?;
+    let service = service_of(firm, row)?;
+    Ok(Row::Contract(Contract {
+        name,
+        shipper,
+        quantity,
+        service,
+    }))
+}
+
+#[tactic(auto, unfolding(crate::specs::Rows::carry_row))]
+pub(crate) fn carry_row(row: &ByteRecord) -> Result<Row, Cause>
+    ensures { result ≡ spec.carry_row (fields_of row.now) }
+{
+    let key = key_at(row, 2)?;
+    let quantity = quantity_at(row, 6)?;
+    empty_from(row, 7)?;
+    Ok(Row::Carry { key, quantity })
 }
 
 #[tactic(auto, unfolding(crate::specs::Rows::question_row))]
@@ -158,7 +204,7 @@ pub(crate) fn day_row(
     number: u64,
     row: &ByteRecord,
 ) -> Result<Row, TextFault>
-    ensures { Finds number result (spec.day_row needed (fields_of row.now)) }
+    ensures { Finds result (at_row number (spec.day_row needed (fields_of row.now))) }
 {
     match day_fields(needed, row) {
         Ok((date, zone, book)) => {

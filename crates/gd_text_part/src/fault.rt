@@ -4,6 +4,7 @@ ghost use Rattle.std.specs.Prelude.{◌≡◌, Some};
 ghost use Rattle.gd_text_part.specs.Causes.{cause_text, fault_text};
 ghost use Rattle.gd_text_part.specs.declared.fault.TextFault.TheVariants.{OutOfMemory, Row};
 
+use gd_contracts::ContractFault;
 use gd_question::{CapacityFault, LineFault};
 use gd_system::BuildFault;
 use std::alloc::{AllocError, AllocFailed};
@@ -29,13 +30,15 @@ pub enum Cause {
     Missing,
     /// The segment, point or pool is refused; or the pipeline, which has no segment, at one row past the last.
     Build(BuildFault),
+    /// The contract is refused.
+    Contract(ContractFault),
     /// The capacity is refused.
     Capacity(CapacityFault),
     /// The line is refused.
     Line(LineFault),
     /// Nothing that the row may speak of has this name.
     UnknownElement,
-    /// An element's price at this class is given already.
+    /// An element's price at this class is given already, or the line's quantity is carried already.
     Duplicate,
 }
 
@@ -107,6 +110,7 @@ impl fmt::Display for Cause {
             Cause::BadField(k) => write!(f, "BadField,{k}"),
             Cause::Missing => f.write_str("Missing,"),
             Cause::Build(fault) => write!(f, "{fault},"),
+            Cause::Contract(fault) => write!(f, "{fault},"),
             Cause::Capacity(fault) => write!(f, "{fault},"),
             Cause::Line(fault) => write!(f, "{fault},"),
             Cause::UnknownElement => f.write_str("UnknownElement,"),

@@ -10,7 +10,11 @@ use crate::fault::Cause;
 use crate::number::{number_of, signed_of};
 use crate::row::{FIELD_COUNT, Member};
 use csv::ByteRecord;
-use gd_units::{Class, CycleNo, Dth, Kind, Name, Round};
+use gd_lines::LineKey;
+use gd_units::{Band, Class, CycleNo, Dth, End, Kind, Moment, Name, Round};
+
+/// The greatest number of a line that a text may have. Whether there is such a line is found when the row is run.
+const MAX_WRITTEN_LINE: u64 = 4_294_967_295;
 
 /// Field `k`, where the kind is field 1. A field past the last is empty.
 pub(crate) fn field(row: &ByteRecord, k: usize) -> &[u8]
@@ -53,6 +57,25 @@ pub(crate) fn quantity_at(row: &ByteRecord, k: usize) -> Result<Dth, Cause>
         Ok(quantity) => Ok(quantity),
         Err(_) => Err(Cause::BadField(k)),
     }
+}
+
+pub(crate) fn moment_at(row: &ByteRecord, k: usize) -> Result<Moment, Cause>
+    requires { 0 < k }
+    ensures { result ≡ spec.moment_at (fields_of row.now) k }
+{
+    let number = number_at(row, k, 0, Moment::MAX)?;
+    match Moment::new(number as i64) {
+        Some(moment) => Ok(moment),
+        None => Err(Cause::BadField(k)),
+    }
+}
+
+/// The number of a line, counted from 1.
+pub(crate) fn line_at(row: &ByteRecord, k: usize) -> Result<u32, Cause>
+    requires { 0 < k }
+    ensures { result ≡ spec.line_at (fields_of row.now) k }
+{
+    Ok(number_at(row, k, 1, MAX_WRITTEN_LINE)? as u32)
 }
 
 pub(crate) fn cycle_at(row: &ByteRecord, k: usize) -> Result<CycleNo, Cause>
@@ -101,6 +124,71 @@ pub(crate) fn class_at(row: &ByteRecord, k: usize) -> Result<Class, Cause>
         Some(class) => Ok(class),
         None => Err(Cause::BadField(k)),
     }
+}
+
+/// The rate band of field `k`, 1 where it is empty.
+pub(crate) fn band_at(row: &ByteRecord, k: usize) -> Result<Band, Cause>
+    requires { 0 < k }
+    ensures { result ≡ spec.band_at (fields_of row.now) k }
+{
+    let number = if field(row, k).is_empty() {
+        1
+    } else {
+        number_at(row, k, 1, u64::from(Band::MAX))?
+    };
+    match Band::new(number as u8) {
+        Some(band) => Ok(band),
+        None => Err(Cause::BadField(k)),
+    }
+}
+
+/// Whether field `k` says that a contract is `firm`, or `interruptible`.
+pub(crate) fn is_firm_at(row: &ByteRecord, k: usize) -> Result<bool, Cause>
+    requires { 0 < k }
+    ensures { result ≡ spec.is_firm_at (fields_of row.now) k }
+{
+    let word = field(row, k);
+    if word == b"firm".as_slice() {
+        Ok(true)
+    } else if word == b"interruptible".as_slice() {
+        Ok(false)
+    } else {
+        Err(Cause::BadField(k))
+    }
+}
+
+/// The end of a line that field `k` names: `origin` or `dest`.
+pub(crate) fn end_at(row: &ByteRecord, k: usize) -> Result<End, Cause>
+    requires { 0 < k }
+    ensures { result ≡ spec.end_at (fields_of row.now) k }
+{
+    let word = field(row, k);
+    if word == b"origin".as_slice() {
+        Ok(End::Origin)
+    } else if word == b"dest".as_slice() {
+        Ok(End::Dest)
+    } else {
+        Err(Cause::BadField(k))
+    }
+}
+
+/// The contract, package, origin and destination that the four fields from field `k` on name.
+#[tactic(auto, unfolding(crate::specs::Rows::key_at))]
+pub(crate) fn key_at(row: &ByteRecord, k: usize) -> Result<LineKey, Cause>
+    requires some { 0 < k }
+    requires few { k ≤ FIELD_COUNT }
+    ensures { result ≡ spec.key_at (fields_of row.now) k }
+{
+    let contract = name_at(row, k)?;
+    let package = name_at(row, k + 1)?;
+    let origin = name_at(row, k + 2)?;
+    let dest = name_at(row, k + 3)?;
+    Ok(LineKey {
+        contract,
+        package,
+        origin,
+        dest,
+    })
 }
 
 pub(crate) fn signed_at(row: &ByteRecord, k: usize) -> Result<i64, Cause>

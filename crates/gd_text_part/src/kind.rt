@@ -2,6 +2,7 @@
 
 ghost use Rattle.std.specs.Prelude.{◌≡◌};
 ghost use Rattle.gd_text_part.specs.Kinds as spec;
+ghost use Rattle.gd_text_part.specs.Places as places;
 
 /// The command that reads a text.
 #[derive(Clone, Copy, Debug, PartialEq, Eq)]
@@ -16,6 +17,8 @@ pub enum Form {
     Solve,
     /// `calendar`: the head of a gas day.
     Calendar,
+    /// `day`: a system, contracts, the head of a gas day and what is carried into it, then the calls of its book.
+    Day,
 }
 
 /// The kinds of rows, each named by the first field. A command takes some of them.
@@ -127,9 +130,7 @@ impl RowKind {
             _ => 9,
         }
     }
-}
 
-impl RowKind {
     /// Rows that build a system and ask a question about it.
     fn asks(self) -> bool
         ensures { result ≡ spec.asks self }
@@ -142,6 +143,40 @@ impl RowKind {
                 | RowKind::Question
                 | RowKind::Capacity
                 | RowKind::Line
+        )
+    }
+
+    /// The least stage of the row behind one of this kind: behind an event row `sched` rows may stand again.
+    pub(crate) fn stage_behind(self) -> u8
+        ensures { result ≡ places.stage_behind self }
+    {
+        match self.stage() {
+            9 => RowKind::Sched.stage(),
+            stage => stage,
+        }
+    }
+
+    /// Rows of a certificate, and the event row that takes them.
+    pub(crate) fn is_of_certificate(self) -> bool
+        ensures { result ≡ spec.is_of_certificate self }
+    {
+        matches!(self, RowKind::Sched | RowKind::Price | RowKind::Publish)
+    }
+
+    /// Rows of a cut, and the event row that takes them.
+    pub(crate) fn is_of_cut(self) -> bool
+        ensures { result ≡ spec.is_of_cut self }
+    {
+        matches!(self, RowKind::Inside | RowKind::Declare)
+    }
+
+    /// Rows of a gas day: all but those that ask a question about a pipeline, and those of sessions.
+    fn is_of_day(self) -> bool
+        ensures { result ≡ spec.is_of_day self }
+    {
+        !matches!(
+            self,
+            RowKind::Question | RowKind::Capacity | RowKind::Line | RowKind::Session | RowKind::Desk
         )
     }
 }
@@ -164,6 +199,14 @@ impl Form {
             Form::CheckCut => kind.asks() || matches!(kind, RowKind::Inside),
             Form::Solve => kind.asks(),
             Form::Calendar => matches!(kind, RowKind::Day),
+            Form::Day => kind.is_of_day(),
         }
+    }
+
+    /// Whether `sched`, `price` and `inside` rows wait for an event row that takes them.
+    pub(crate) fn has_events(self) -> bool
+        ensures { result ≡ spec.has_events self }
+    {
+        matches!(self, Form::Day)
     }
 }

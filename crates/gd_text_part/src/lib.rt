@@ -3,6 +3,7 @@
 
 mod body;
 mod date;
+mod event;
 mod fault;
 mod fields;
 mod input;
@@ -13,6 +14,7 @@ mod output;
 mod read;
 mod records;
 mod row;
+mod waiting;
 mod zone;
 
 pub use date::CivilDate;
@@ -24,5 +26,5 @@ pub use order::missing_head;
 pub use output::{WriteFault, write_bytes};
 pub use read::{read_all, rows_in};
 pub use records::MAX_ROWS;
-pub use row::{FIELD_COUNT, Member, PipelineRow, QuestionRow, Row};
+pub use row::{EventRow, FIELD_COUNT, Member, PipelineRow, QuestionRow, Row};
 pub use zone::ZoneText;

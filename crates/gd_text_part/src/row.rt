@@ -2,7 +2,9 @@
 
 use crate::date::CivilDate;
 use crate::zone::ZoneText;
-use gd_units::{Class, CycleNo, Dth, Kind, Name, Round};
+use gd_contracts::Contract;
+use gd_lines::LineKey;
+use gd_units::{Class, CycleNo, Dth, End, Kind, Moment, Name, Round};
 
 /// How many fields a row has.
 pub const FIELD_COUNT: usize = 8;
@@ -65,6 +67,60 @@ pub enum QuestionRow {
     },
 }
 
+/// A row that calls the book of a gas day. Moments are seconds since 1970-01-01T00:00:00Z, from 0 to 4,200,000,000.
+/// Quantities are dekatherms a gas day; lines are counted from 1, up to 4,294,967,295.
+#[derive(Clone, Copy, Debug, PartialEq, Eq)]
+pub enum EventRow {
+    /// A shipper nominates a quantity on a line.
+    Nominate {
+        moment: Moment,
+        party: Name,
+        key: LineKey,
+        quantity: Dth,
+    },
+    /// An operator confirms a quantity at one end of a line.
+    Respond {
+        moment: Moment,
+        party: Name,
+        line: u32,
+        end: End,
+        quantity: Dth,
+    },
+    /// From now on this is the capacity of a segment or point.
+    Post {
+        moment: Moment,
+        element: Name,
+        capacity: Dth,
+    },
+    /// The current cycle is closed, and its question is asked.
+    Freeze {
+        moment: Moment,
+    },
+    /// The frozen question is solved, and its schedule is published or a cut declared.
+    Settle {
+        moment: Moment,
+    },
+    /// The `sched` and `price` rows directly before this one answer the question of this round.
+    Publish {
+        moment: Moment,
+        round: Round,
+    },
+    /// The `inside` rows directly before this one show that the question of this round has no allowed schedule.
+    Declare {
+        moment: Moment,
+        round: Round,
+    },
+    /// A line gives up its protection in the current cycle.
+    Waive {
+        moment: Moment,
+        line: u32,
+    },
+    /// The current cycle ends without a schedule.
+    Skip {
+        moment: Moment,
+    },
+}
+
 /// A row of a text, by what its kind of rows builds.
 #[derive(Debug, Drop)]
 pub enum Row {
@@ -78,6 +134,15 @@ pub enum Row {
         zone: ZoneText,
         book: Option<Name>,
     },
+    /// A contract that a shipper holds on the pipeline.
+    Contract(Contract),
+    /// The quantity of a line that is carried from the gas day before, in dekatherms a gas day.
+    Carry {
+        key: LineKey,
+        quantity: Dth,
+    },
+    /// A call of the book of a gas day.
+    Event(EventRow),
     /// The scheduled quantity of a line in dekatherms a gas day; lines are counted from 1.
     Sched {
         line: u32,

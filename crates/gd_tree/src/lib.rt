@@ -325,6 +325,3 @@ impl Tree {
         false
     }
 }
-
-#[cfg(test)]
-mod tests;

@@ -12,6 +12,3 @@ pub use cycle::{CycleNo, Moment, Round};
 pub use name::{Name, NameFault};
 pub use quantity::{Dth, DthFault};
 pub use service::{Band, Class, End, Kind};
-
-#[cfg(test)]
-mod tests;

@@ -2,4 +2,4 @@ use Rattle.gasday_part.proofs.Finding.{finds}
 use Rattle.gasday_part.proofs.answer.answer_of.Goals as goal
 
 pub returns-in-Ok : goal.returns-in-Ok
-returns-in-Ok c = finds c.args.command c.args.text.now c.in-Ok.rows.items c.answer_to_rows.result (rw c.form.ensures at c.in-Ok.ensures) (rw c.as_slice.ensures.value at c.answer_to_rows.ensures)
+returns-in-Ok g c = finds c.args.command c.args.text.now c.in-Ok.rows.items c.answer_to_rows.result (rw c.form.ensures at c.in-Ok.ensures) (rw c.as_slice.ensures.value at c.answer_to_rows.ensures)

@@ -1,0 +1,12 @@
+use Rattle.std.proofs.Common.{◌≡◌}
+use Rattle.gd_course.proofs.Running.{IsAt}
+use Rattle.gd_course.proofs.course.run.Given as goal
+
+-- The calls so far were made, and the note is the board's.
+abbrev pub invariant-rows : goal.invariant-rows
+invariant-rows g l = record {
+  here : IsAt l.fn.book.day l.fn.book.history l.rows l.start l.at l.told.items l.book.history;
+  day : l.book.day ≡ l.fn.book.day;
+  board : l.note.cells ≡ l.board;
+  cells : l.note.cells ≡ l.fn.note.cells;
+}

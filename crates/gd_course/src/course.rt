@@ -1,0 +1,47 @@
+//! All calls of a day's text.
+
+ghost use Rattle.std.specs.Prelude.{◌≡◌, [], ◌∷◌, length as len_of, OnOk, OnErr};
+ghost use Rattle.gd_day.specs.Calls.{calls_of};
+ghost use Rattle.gd_day.specs.Groups.{AllPass};
+ghost use Rattle.gd_course.specs.Course as spec;
+
+use crate::event::make_call;
+use gd_board::{Board, BoardNote};
+use gd_book::Book;
+use gd_day::event_of;
+use gd_replies::Reply;
+use gd_text_part::Row;
+use std::alloc::{AllocError, Global};
+use std::thread::Threads;
+
+/// Makes the calls of a text's rows one after the other, and appends to `told` what is told of each. It asks for rows whose
+/// groups can be made, and for a note of the board. The only error is want of memory: then `told` has what is told of the
+/// first calls.
+pub fn run(
+    rt: &(impl Threads + Sync),
+    alloc: Global,
+    book: &mut Book,
+    board: &Board,
+    note: &mut BoardNote,
+    rows: &[Row],
+    told: &mut Vec<Reply>,
+) -> Result<(), AllocError>
+    requires board { note.old.cells ≡ board.now }
+    requires pass { AllPass book.old.day.held.pipeline (calls_of rows.now) }
+    requires empty { told.old.items ≡ [] }
+    ensures ok { OnOk result (spec.Runs book.old.day book.old.history (calls_of rows.now) told.new.items book.new.history) }
+    ensures err { OnErr result (spec.RunsInPart book.old.day book.old.history (calls_of rows.now) told.new.items) }
+    ensures day { book.new.day ≡ book.old.day }
+    ensures board { note.new.cells ≡ note.old.cells }
+{
+    let mut start = 0;
+    'rows: for (at, row) in rows.iter().enumerate() {
+        let Some(event) = event_of(row) else {
+            continue;
+        };
+        let mut answer = make_call(rt, alloc, book, board, note, &rows[start..at], event)?;
+        told.append(&mut answer)?;
+        start = at + 1;
+    }
+    Ok(())
+}

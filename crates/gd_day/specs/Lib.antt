@@ -1,0 +1,7 @@
+pub mod Calls
+pub mod Carried
+pub mod Contracted
+pub mod Groups
+pub mod Heads
+pub mod Marks
+pub mod Opened
