@@ -7,3 +7,4 @@ pub mod Cutting
 pub mod InForce
 pub mod Search
 pub mod Checked
+pub mod Inside

@@ -17,24 +17,32 @@ use std::alloc::{AllocError, Global};
 use std::marker::Model;
 use std::thread::Threads;
 
-/// A question with a schedule and prices that passed the check, by the tariff in force. [`check_par`] alone makes one.
-///
-/// A contract sees the three.
+/// What a certificate is made of.
 #[derive(Drop)]
-pub struct Checked {
+struct Parts {
     question: Question,
     schedule: Schedule,
     prices: Prices<Tariff>,
 }
 
+/// A question with a schedule and prices that passed the check, by the tariff in force. [`check_par`] alone makes one.
+///
+/// A contract sees the three.
+#[derive(Drop)]
+pub struct Checked {
+    // in a box, so that events that have no certificate are small
+    parts: Box<Parts>,
+}
+
 impl Model for Checked {
     ghost use Rattle.gd_certificate.specs.Checked.{Certificate, IsRight};
+    ghost use Rattle.gd_certificate.specs.Inside.{certificate_of};
 
     ghost Value = { Certificate };
 
-    ghost view = { λ c. record { question = c.question; schedule = c.schedule; prices = c.prices } };
+    ghost view = { λ c. certificate_of c.parts.value };
 
-    ghost invariant = { λ c. IsRight (record { question = c.question; schedule = c.schedule; prices = c.prices }) };
+    ghost invariant = { λ c. IsRight (certificate_of c.parts.value) };
 }
 
 impl Checked {
@@ -43,51 +51,51 @@ impl Checked {
         ensures right { IsRight self.now }
         ensures best { IsBest self.now.question.asked self.now.schedule }
     {
-        let _question = &self.question;
+        let _parts = &self.parts;
     }
 
     /// The question that the schedule answers.
     pub fn question(&self) -> &Question
         ensures { result.now ≡ self.now.question }
     {
-        &self.question
+        &self.parts.question
     }
 
     /// The schedule, which is best.
     pub fn schedule(&self) -> &Schedule
         ensures { result.now ≡ self.now.schedule }
     {
-        &self.schedule
+        &self.parts.schedule
     }
 
     /// The prices that show it.
     pub fn prices(&self) -> &Prices<Tariff>
         ensures { result.now ≡ self.now.prices }
     {
-        &self.prices
+        &self.parts.prices
     }
 
     /// Whether both have the same question, schedule and prices. Takes no memory.
     pub fn same(&self, other: &Checked) -> bool
         ensures { IsTrue result ↔ (self.now ≡ other.now) }
     {
-        self.question.same(&other.question)
-            && self.schedule.same(&other.schedule)
-            && self.prices.same(&other.prices)
+        self.question().same(other.question())
+            && self.schedule().same(other.schedule())
+            && self.prices().same(other.prices())
     }
 
     /// The same three once more, which passed with them. The only error is want of memory.
     pub fn try_clone(&self, alloc: Global) -> Result<Checked, AllocError>
         ensures { IfOk result (λ copy. copy ≡ self.now) }
     {
-        let question = self.question.try_clone(alloc)?;
-        let schedule = self.schedule.try_clone(alloc)?;
-        let prices = self.prices.try_clone(alloc)?;
-        Ok(Checked {
-            question,
-            schedule,
-            prices,
-        })
+        self.known();
+        let question = self.question().try_clone(alloc)?;
+        let schedule = self.schedule().try_clone(alloc)?;
+        let prices = self.prices().try_clone(alloc)?;
+        match keep(alloc, question, schedule, prices) {
+            Ok(checked) => Ok(checked),
+            Err(_) => Err(AllocError),
+        }
     }
 }
 
@@ -109,6 +117,30 @@ fn check_in_force(
         → IfErr result (λ told. told ≡ CertFault.OutOfMemory) }
 {
     check_together(rt, alloc, question, schedule, prices)
+}
+
+/// Keeps what passed the check. What finds no memory is handed back.
+fn keep(
+    alloc: Global,
+    question: Question,
+    schedule: Schedule,
+    prices: Prices<Tariff>,
+) -> Result<Checked, Parts>
+    requires { IsRight (record { question = question; schedule = schedule; prices = prices }) }
+    ensures kept { IfOk result
+        (λ checked. checked ≡ record { question = question; schedule = schedule; prices = prices }) }
+    ensures refused { IfErr result
+        (λ parts. parts ≡ record { question = question; schedule = schedule; prices = prices }) }
+{
+    let parts = Parts {
+        question,
+        schedule,
+        prices,
+    };
+    match Box::new(alloc, parts) {
+        Ok(parts) => Ok(Checked { parts }),
+        Err(refused) => Err(refused.value),
+    }
 }
 
 /// Checks by several threads that prices by the tariff in force show a schedule best, as `check` does, and keeps what passed.
@@ -135,11 +167,15 @@ pub fn check_par(
         → IfErr result (λ refused. refused.0 ≡ CertFault.OutOfMemory) }
 {
     match check_in_force(rt, alloc, &question, &schedule, &prices) {
-        Ok(()) => Ok(Checked {
-            question,
-            schedule,
-            prices,
-        }),
+        Ok(()) => match keep(alloc, question, schedule, prices) {
+            Ok(checked) => Ok(checked),
+            Err(parts) => Err((
+                CertFault::OutOfMemory,
+                parts.question,
+                parts.schedule,
+                parts.prices,
+            )),
+        },
         Err(fault) => Err((fault, question, schedule, prices)),
     }
 }
