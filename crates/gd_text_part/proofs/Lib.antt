@@ -2,6 +2,8 @@ pub mod AllRecords
 mod DayRows
 pub mod Digits
 pub mod EmptyFields
+pub mod ExampleTexts
+mod OfficeRows
 pub mod RecordsTaken
 pub mod TextScan
 pub mod Utf8Test

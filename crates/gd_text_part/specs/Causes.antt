@@ -15,6 +15,7 @@ cause_name cause.UnknownKind = codes "UnknownKind"
 cause_name cause.Order = codes "Order"
 cause_name (cause.BadField k) = codes "BadField"
 cause_name cause.Missing = codes "Missing"
+cause_name cause.Limit = codes "Limit"
 cause_name (cause.Build fault) = build_fault_name fault
 cause_name (cause.Contract fault) = contract_fault_name fault
 cause_name (cause.Capacity fault) = capacity_fault_name fault

@@ -25,7 +25,7 @@ event_of text =
     else if is_text text (codes "desk") then Some kind.Desk
     else None
 
--- the kind that a first field names
+-- the kind that a first field names in every text
 abbrev pub kind_of : List ℕ → Option RowKind
 kind_of text =
     if is_text text (codes "segment") then Some kind.Segment
@@ -42,6 +42,11 @@ kind_of text =
     else if is_text text (codes "inside") then Some kind.Inside
     else event_of text
 
+-- the kind that a first field names in the text of a command: only the body of a posting has `bumped` rows
+abbrev pub kind_in : Form → List ℕ → Option RowKind
+kind_in form.Body text = if is_text text (codes "bumped") then Some kind.Bumped else kind_of text
+kind_in f text = kind_of text
+
 -- the stage that a kind stands in
 abbrev pub stage_of : RowKind → ℕ
 stage_of kind.Segment = 1
@@ -56,6 +61,7 @@ stage_of kind.Line = 5
 stage_of kind.Sched = 6
 stage_of kind.Price = 7
 stage_of kind.Inside = 8
+stage_of kind.Bumped = 8
 stage_of kind.Nominate = 9
 stage_of kind.Respond = 9
 stage_of kind.Post = 9
@@ -90,17 +96,26 @@ abbrev pub is_inside : RowKind → Bool
 is_inside kind.Inside = true
 is_inside k = false
 
+abbrev pub is_bumped : RowKind → Bool
+is_bumped kind.Bumped = true
+is_bumped k = false
+
+abbrev pub is_segment : RowKind → Bool
+is_segment kind.Segment = true
+is_segment k = false
+
 abbrev pub is_day : RowKind → Bool
 is_day kind.Day = true
 is_day k = false
 
--- rows of a gas day: all but those that ask a question about a pipeline, and those of sessions
+-- rows of a gas day: all but those that ask a question about a pipeline, those of sessions, and those of bumped lines
 abbrev pub is_of_day : RowKind → Bool
 is_of_day kind.Question = false
 is_of_day kind.Capacity = false
 is_of_day kind.Line = false
 is_of_day kind.Session = false
 is_of_day kind.Desk = false
+is_of_day kind.Bumped = false
 is_of_day k = true
 
 -- rows of a certificate, and the event row that takes them
@@ -116,6 +131,32 @@ is_of_cut kind.Inside = true
 is_of_cut kind.Declare = true
 is_of_cut k = false
 
+-- rows of a block, which says what a slot of an office begins with
+abbrev pub is_of_block : RowKind → Bool
+is_of_block kind.Segment = true
+is_of_block kind.Point = true
+is_of_block kind.Pool = true
+is_of_block kind.Contract = true
+is_of_block kind.Day = true
+is_of_block kind.Carry = true
+is_of_block k = false
+
+-- the calls that a session makes
+abbrev pub is_of_session : RowKind → Bool
+is_of_session kind.Nominate = true
+is_of_session kind.Respond = true
+is_of_session kind.Post = true
+is_of_session k = false
+
+abbrev pub is_session_or_desk : RowKind → Bool
+is_session_or_desk kind.Session = true
+is_session_or_desk kind.Desk = true
+is_session_or_desk k = false
+
+-- rows of an office: its blocks, its sessions with their calls, and its desk rounds
+abbrev pub is_of_office : RowKind → Bool
+is_of_office k = is_of_block k || is_of_session k || is_session_or_desk k
+
 -- whether the command takes rows of this kind
 abbrev pub takes : Form → RowKind → Bool
 takes form.CheckAllowed k = asks k || is_sched k
@@ -124,13 +165,10 @@ takes form.CheckCut k = asks k || is_inside k
 takes form.Solve k = asks k
 takes form.Calendar k = is_day k
 takes form.Day k = is_of_day k
+takes form.Office k = is_of_office k
+takes form.Body k = asks k || is_sched k || is_price k || is_bumped k
 
 -- whether a `day` row has to name a book
 abbrev pub needs_book : Form → Bool
 needs_book form.Calendar = false
 needs_book f = true
-
--- whether `sched`, `price` and `inside` rows wait for an event row that takes them
-abbrev pub has_events : Form → Bool
-has_events form.Day = true
-has_events f = false

@@ -5,6 +5,7 @@ pub mod Events
 pub mod Found
 pub mod Kinds
 pub mod Numbers
+pub mod Offices
 pub mod Places
 pub mod Rows
 pub mod Texts

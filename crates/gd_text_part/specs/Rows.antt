@@ -262,3 +262,10 @@ inside_row fields = do
   name ← name_at fields 3
   rest ← empty_from fields 4
   Ok (row.Inside member name)
+
+unfoldable pub bumped_row : List (List ℕ) → Result Row Cause
+bumped_row fields = do
+  line ← line_at fields 2
+  quantity ← quantity_at fields 3
+  rest ← empty_from fields 4
+  Ok (row.Bumped line quantity)

@@ -9,9 +9,9 @@ ghost use Rattle.gd_text_part.specs.Rows as spec;
 use crate::date::CivilDate;
 use crate::fault::{Cause, TextFault};
 use crate::fields::{
-    band_at, class_at, cycle_at, date_at, empty_from, is_firm_at, key_at, member_at, name_at,
-    name_or_none_at, number_at, point_kind_at, quantity_at, round_at, signed_at, signed_or_zero_at,
-    text_at,
+    band_at, class_at, cycle_at, date_at, empty_from, is_firm_at, key_at, line_at, member_at,
+    name_at, name_or_none_at, number_at, point_kind_at, quantity_at, round_at, signed_at,
+    signed_or_zero_at, text_at,
 };
 use crate::row::{PipelineRow, QuestionRow, Row};
 use crate::zone::ZoneText;
@@ -240,4 +240,14 @@ pub(crate) fn inside_row(row: &ByteRecord) -> Result<Row, Cause>
     let name = name_at(row, 3)?;
     empty_from(row, 4)?;
     Ok(Row::Inside { member, name })
+}
+
+#[tactic(auto, unfolding(crate::specs::Rows::bumped_row))]
+pub(crate) fn bumped_row(row: &ByteRecord) -> Result<Row, Cause>
+    ensures { result ≡ spec.bumped_row (fields_of row.now) }
+{
+    let line = line_at(row, 2)?;
+    let quantity = quantity_at(row, 3)?;
+    empty_from(row, 4)?;
+    Ok(Row::Bumped { line, quantity })
 }

@@ -26,8 +26,10 @@ pub enum Cause {
     /// The least field, the kind being field 1, that is not of its form, out of its range or out of
     /// sequence, or that should be empty.
     BadField(usize),
-    /// There is no head, a `question` or `day` row. It is told at one row past the last.
+    /// There is no head, a `question` or `day` row; or a block of an office has none. It is told at one row past the last.
     Missing,
+    /// The row begins one more block, or one more session of its phase or slot, than an office may have.
+    Limit,
     /// The segment, point or pool is refused; or the pipeline, which has no segment, at one row past the last.
     Build(BuildFault),
     /// The contract is refused.
@@ -109,6 +111,7 @@ impl fmt::Display for Cause {
             Cause::Order => f.write_str("Order,"),
             Cause::BadField(k) => write!(f, "BadField,{k}"),
             Cause::Missing => f.write_str("Missing,"),
+            Cause::Limit => f.write_str("Limit,"),
             Cause::Build(fault) => write!(f, "{fault},"),
             Cause::Contract(fault) => write!(f, "{fault},"),
             Cause::Capacity(fault) => write!(f, "{fault},"),

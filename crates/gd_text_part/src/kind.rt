@@ -4,7 +4,7 @@ ghost use Rattle.std.specs.Prelude.{◌≡◌};
 ghost use Rattle.gd_text_part.specs.Kinds as spec;
 ghost use Rattle.gd_text_part.specs.Places as places;
 
-/// The command that reads a text.
+/// What a text is for: the command that reads it, or the archive that keeps it.
 #[derive(Clone, Copy, Debug, PartialEq, Eq)]
 pub enum Form {
     /// `check allowed`: a system, a question and a schedule.
@@ -19,6 +19,11 @@ pub enum Form {
     Calendar,
     /// `day`: a system, contracts, the head of a gas day and what is carried into it, then the calls of its book.
     Day,
+    /// `office`: blocks, each of a system, contracts, the head of a gas day and what is carried into it, then sessions with
+    /// their calls, and desk rounds.
+    Office,
+    /// An archived posting: what `check best` takes, and the lines that were bumped.
+    Body,
 }
 
 /// The kinds of rows, each named by the first field. A command takes some of them.
@@ -47,10 +52,11 @@ pub enum RowKind {
     Skip,
     Session,
     Desk,
+    Bumped,
 }
 
-/// The kind that a first field names.
-pub(crate) fn kind_of(text: &[u8]) -> Option<RowKind>
+/// The kind that a first field names in every text.
+fn kind_of(text: &[u8]) -> Option<RowKind>
     ensures { result ≡ spec.kind_of text.now }
 {
     if text == b"segment".as_slice() {
@@ -126,7 +132,7 @@ impl RowKind {
             RowKind::Line => 5,
             RowKind::Sched => 6,
             RowKind::Price => 7,
-            RowKind::Inside => 8,
+            RowKind::Inside | RowKind::Bumped => 8,
             _ => 9,
         }
     }
@@ -170,14 +176,50 @@ impl RowKind {
         matches!(self, RowKind::Inside | RowKind::Declare)
     }
 
-    /// Rows of a gas day: all but those that ask a question about a pipeline, and those of sessions.
+    /// Rows of a gas day: all but those that ask a question about a pipeline, those of sessions, and those of bumped lines.
     fn is_of_day(self) -> bool
         ensures { result ≡ spec.is_of_day self }
     {
         !matches!(
             self,
-            RowKind::Question | RowKind::Capacity | RowKind::Line | RowKind::Session | RowKind::Desk
+            RowKind::Question
+                | RowKind::Capacity
+                | RowKind::Line
+                | RowKind::Session
+                | RowKind::Desk
+                | RowKind::Bumped
         )
+    }
+
+    /// Rows of a block, which says what a slot of an office begins with.
+    pub(crate) fn is_of_block(self) -> bool
+        ensures { result ≡ spec.is_of_block self }
+    {
+        matches!(
+            self,
+            RowKind::Segment
+                | RowKind::Point
+                | RowKind::Pool
+                | RowKind::Contract
+                | RowKind::Day
+                | RowKind::Carry
+        )
+    }
+
+    /// The calls that a session makes.
+    pub(crate) fn is_of_session(self) -> bool
+        ensures { result ≡ spec.is_of_session self }
+    {
+        matches!(self, RowKind::Nominate | RowKind::Respond | RowKind::Post)
+    }
+
+    /// Rows of an office: its blocks, its sessions with their calls, and its desk rounds.
+    fn is_of_office(self) -> bool
+        ensures { result ≡ spec.is_of_office self }
+    {
+        self.is_of_block()
+            || self.is_of_session()
+            || matches!(self, RowKind::Session | RowKind::Desk)
     }
 }
 
@@ -200,13 +242,20 @@ impl Form {
             Form::Solve => kind.asks(),
             Form::Calendar => matches!(kind, RowKind::Day),
             Form::Day => kind.is_of_day(),
+            Form::Office => kind.is_of_office(),
+            Form::Body => {
+                kind.asks() || matches!(kind, RowKind::Sched | RowKind::Price | RowKind::Bumped)
+            }
         }
     }
 
-    /// Whether `sched`, `price` and `inside` rows wait for an event row that takes them.
-    pub(crate) fn has_events(self) -> bool
-        ensures { result ≡ spec.has_events self }
+    /// The kind that a first field names in such a text.
+    pub(crate) fn kind_of(self, text: &[u8]) -> Option<RowKind>
+        ensures { result ≡ spec.kind_in self text.now }
     {
-        matches!(self, Form::Day)
+        if matches!(self, Form::Body) && text == b"bumped".as_slice() {
+            return Some(RowKind::Bumped);
+        }
+        kind_of(text)
     }
 }

@@ -1,6 +1,7 @@
 //! Texts as rows: the bytes of a reader to typed rows, or to the first fault; and how bytes are written.
 #![tactic(auto)]
 
+mod blocks;
 mod body;
 mod date;
 mod event;
@@ -17,6 +18,7 @@ mod row;
 mod waiting;
 mod zone;
 
+pub use blocks::{MAX_BLOCKS, MAX_SESSIONS_A_SLOT};
 pub use date::CivilDate;
 pub use fault::{Cause, RowFault, TextFault};
 pub use input::{MAX_BYTES, MAX_READS, read_bytes};
@@ -26,5 +28,6 @@ pub use order::missing_head;
 pub use output::{WriteFault, write_bytes};
 pub use read::{read_all, rows_in};
 pub use records::MAX_ROWS;
-pub use row::{EventRow, FIELD_COUNT, Member, PipelineRow, QuestionRow, Row};
+pub use row::{EventRow, FIELD_COUNT, Member, OfficeRow, PipelineRow, QuestionRow, Row};
+pub use waiting::MAX_SESSIONS_A_PHASE;
 pub use zone::ZoneText;

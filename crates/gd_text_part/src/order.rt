@@ -4,32 +4,36 @@ ghost use Rattle.std.specs.Prelude.{◌≡◌, ◌<◌, ◌≤◌, ◌+◌, ◌^
 ghost use Rattle.csv.specs.Records.{fields_of};
 ghost use Rattle.gd_text_part.specs.Found.{Finds, at_row};
 
+use crate::blocks::Blocks;
 use crate::body::{
-    capacity_row, carry_row, contract_row, day_row, inside_row, line_row, point_row, pool_row,
-    price_row, question_row, sched_row, segment_row,
+    bumped_row, capacity_row, carry_row, contract_row, day_row, inside_row, line_row, point_row,
+    pool_row, price_row, question_row, sched_row, segment_row,
 };
-use crate::event::event_row;
+use crate::event::{desk_row, event_row, session_row};
 use crate::fault::{Cause, RowFault, TextFault};
 use crate::fields::field;
-use crate::kind::{Form, RowKind, kind_of};
-use crate::row::{FIELD_COUNT, Row};
+use crate::kind::{Form, RowKind};
+use crate::row::{FIELD_COUNT, OfficeRow, Row};
 use crate::waiting::Waiting;
 use csv::ByteRecord;
 use std::alloc::Global;
 
 /// What the rows so far leave of the order of a text.
-#[derive(Clone, Copy, Debug, PartialEq, Eq)]
+#[derive(Clone, Copy, Debug)]
 pub(crate) struct Place {
     /// The least stage that the next row may have.
     pub(crate) stage: u8,
-    /// Whether the head of the text, its `question` or `day` row, was there.
+    /// Whether the head of the text or of the last block, its `question` or `day` row, was there.
     pub(crate) headed: bool,
     /// How many `sched` rows stand directly before.
     pub(crate) scheds: u32,
-    /// The rows that wait for an event row.
+    /// The rows that wait for the row which takes them.
     pub(crate) waiting: Waiting,
+    /// The blocks of an office.
+    pub(crate) blocks: Blocks,
 }
 
+ghost use Rattle.gd_text_part.specs.Offices as offices;
 ghost use Rattle.gd_text_part.specs.Places as spec;
 
 impl Place {
@@ -42,7 +46,23 @@ impl Place {
             headed: false,
             scheds: 0,
             waiting: Waiting::Nothing,
+            blocks: Blocks::none(),
         }
+    }
+
+    /// Whether a row of this kind begins a block of an office.
+    fn begins(&self, form: Form, kind: RowKind) -> bool
+        ensures { result ≡ offices.begins form self.now.stage kind }
+    {
+        if !matches!(form, Form::Office) {
+            return false;
+        }
+        if self.stage == 0 {
+            return kind.is_of_block();
+        }
+        let behind_head = RowKind::Day.stage() <= self.stage
+            && self.stage <= RowKind::Carry.stage();
+        matches!(kind, RowKind::Segment) && behind_head
     }
 }
 
@@ -52,10 +72,11 @@ fn is_head(kind: RowKind) -> bool
     matches!(kind, RowKind::Question | RowKind::Day)
 }
 
-fn may_stand(place: Place, kind: RowKind) -> bool
-    ensures { result ≡ spec.may_stand place kind }
+fn may_stand(form: Form, place: &Place, kind: RowKind) -> bool
+    ensures { result ≡ spec.may_stand form place.now kind }
 {
-    place.stage <= kind.stage() && !(is_head(kind) && place.headed)
+    let goes_on = place.stage <= kind.stage() && !(is_head(kind) && place.headed);
+    place.begins(form, kind) || (goes_on && !place.waiting.lacks_session(form, kind))
 }
 
 /// This row is out of order.
@@ -69,38 +90,52 @@ fn misplaced(row: u64) -> RowFault
 }
 
 /// Finds that a row of this kind may stand here as row `number`. Rows that it leaves over are told at the first one.
-fn stands(form: Form, place: Place, number: u64, kind: RowKind) -> Result<(), RowFault>
-    ensures { result ≡ spec.stands form place number kind }
+fn stands(form: Form, place: &Place, number: u64, kind: RowKind) -> Result<(), RowFault>
+    ensures { result ≡ spec.stands form place.now number kind }
 {
     if form.takes(kind) {
         if let Some(began) = place.waiting.left_over(kind) {
             return Err(misplaced(began));
         }
-        if may_stand(place, kind) {
+        if may_stand(form, place, kind) {
             return Ok(());
         }
     }
     Err(misplaced(number))
 }
 
-fn after(form: Form, place: Place, number: u64, kind: RowKind) -> Place
-    requires { place.scheds + 1 < 2 ^ 32 }
-    ensures { result ≡ spec.after form place number kind }
+/// The blocks after a row of this kind.
+fn blocks_after(form: Form, place: &Place, kind: RowKind, row: &Row) -> Result<Blocks, Cause>
+    ensures { result ≡ spec.blocks_after form place.now kind row.now }
 {
-    Place {
+    if place.begins(form, kind) {
+        return place.blocks.with_block(place.headed);
+    }
+    match *row {
+        Row::Office(OfficeRow::Session { slot, .. }) => place.blocks.with_session(slot),
+        _ => Ok(place.blocks),
+    }
+}
+
+/// Where the rows stand after row `number`, or the limit that it passes.
+fn after(form: Form, place: &Place, number: u64, kind: RowKind, row: &Row) -> Result<Place, Cause>
+    requires { place.now.scheds + 1 < 2 ^ 32 }
+    ensures next { result ≡ spec.after form place.now number kind row.now }
+    ensures scheds { IfOk result (λ p. p.scheds ≤ place.now.scheds + 1) }
+{
+    let blocks = blocks_after(form, place, kind, row)?;
+    let waiting = place.waiting.after(form, number, kind, row)?;
+    Ok(Place {
         stage: kind.stage_behind(),
-        headed: place.headed || is_head(kind),
+        headed: is_head(kind) || (place.headed && !place.begins(form, kind)),
         scheds: if matches!(kind, RowKind::Sched) {
             place.scheds + 1
         } else {
             0
         },
-        waiting: if form.has_events() {
-            place.waiting.behind(number, kind)
-        } else {
-            Waiting::Nothing
-        },
-    }
+        waiting,
+        blocks,
+    })
 }
 
 /// The row of this kind that record `number` is.
@@ -108,12 +143,12 @@ fn body(
     alloc: Global,
     form: Form,
     kind: RowKind,
-    place: Place,
+    place: &Place,
     number: u64,
     row: &ByteRecord,
 ) -> Result<Row, TextFault>
-    requires { place.scheds + 1 < 2 ^ 32 }
-    ensures { Finds result (at_row number (spec.body form kind place (fields_of row.now))) }
+    requires { place.now.scheds + 1 < 2 ^ 32 }
+    ensures { Finds result (at_row number (spec.body form kind place.now (fields_of row.now))) }
 {
     let read = match kind {
         RowKind::Segment => segment_row(row),
@@ -128,7 +163,10 @@ fn body(
         RowKind::Sched => sched_row(place.scheds + 1, row),
         RowKind::Price => price_row(row),
         RowKind::Inside => inside_row(row),
-        _ => event_row(kind, row),
+        RowKind::Session => session_row(place.blocks.begun, row),
+        RowKind::Desk => desk_row(row),
+        RowKind::Bumped => bumped_row(row),
+        _ => event_row(kind, place.waiting.party(), row),
     };
     match read {
         Ok(row) => Ok(row),
@@ -137,13 +175,13 @@ fn body(
 }
 
 /// The kind of a record, or its first fault up to there.
-fn kind_at(row: &ByteRecord) -> Result<RowKind, Cause>
-    ensures { result ≡ spec.kind_at (fields_of row.now) }
+fn kind_at(form: Form, row: &ByteRecord) -> Result<RowKind, Cause>
+    ensures { result ≡ spec.kind_at form (fields_of row.now) }
 {
     if row.len() != FIELD_COUNT {
         return Err(Cause::FieldCount);
     }
-    match kind_of(field(row, 1)) {
+    match form.kind_of(field(row, 1)) {
         Some(kind) => Ok(kind),
         None => Err(Cause::UnknownKind),
     }
@@ -153,20 +191,22 @@ fn kind_at(row: &ByteRecord) -> Result<RowKind, Cause>
 pub(crate) fn row_of(
     alloc: Global,
     form: Form,
-    place: Place,
+    place: &Place,
     number: u64,
     row: &ByteRecord,
 ) -> Result<(Row, Place), TextFault>
-    requires { place.scheds + 1 < 2 ^ 32 }
-    ensures row { Finds result (spec.row_of form place number (fields_of row.now)) }
-    ensures scheds { IfOk result (λ p. p.1.scheds ≤ place.scheds + 1) }
+    requires { place.now.scheds + 1 < 2 ^ 32 }
+    ensures row { Finds result (spec.row_of form place.now number (fields_of row.now)) }
+    ensures scheds { IfOk result (λ p. p.1.scheds ≤ place.now.scheds + 1) }
 {
-    match kind_at(row) {
-        Ok(kind) => {
-            stands(form, place, number, kind)?;
-            let row = body(alloc, form, kind, place, number, row)?;
-            Ok((row, after(form, place, number, kind)))
-        }
+    let kind = match kind_at(form, row) {
+        Ok(kind) => kind,
+        Err(cause) => return Err(TextFault::at(number, cause)),
+    };
+    stands(form, place, number, kind)?;
+    let row = body(alloc, form, kind, place, number, row)?;
+    match after(form, place, number, kind, &row) {
+        Ok(next) => Ok((row, next)),
         Err(cause) => Err(TextFault::at(number, cause)),
     }
 }
@@ -183,13 +223,15 @@ pub fn missing_head(rows: u64) -> RowFault
 }
 
 /// The fault that the end of a text of so many rows shows.
-pub(crate) fn at_end(place: Place, rows: u64) -> Result<(), RowFault>
+pub(crate) fn at_end(place: &Place, rows: u64) -> Result<(), RowFault>
     requires { rows + 1 < 2 ^ 64 }
-    ensures { result ≡ spec.at_end place rows }
+    ensures { result ≡ spec.at_end place.now rows }
 {
     match place.waiting {
-        Waiting::Certificate { began } | Waiting::Cut { began } => Err(misplaced(began)),
-        Waiting::Nothing if place.headed => Ok(()),
+        Waiting::Certificate { began } | Waiting::Cut { began } | Waiting::Phase { began, .. } => {
+            Err(misplaced(began))
+        }
+        Waiting::Nothing if place.headed && !place.blocks.headless => Ok(()),
         Waiting::Nothing => Err(missing_head(rows)),
     }
 }

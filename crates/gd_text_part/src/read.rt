@@ -26,7 +26,7 @@ fn rows_of(alloc: Global, form: Form, text: &[u8]) -> Result<Vec<Row>, TextFault
     let mut records = Records::of(alloc, text);
     let mut place = Place::start();
     'rows: while records.advance()? {
-        match row_of(alloc, form, place, records.taken, &records.current) {
+        match row_of(alloc, form, &place, records.taken, &records.current) {
             Ok((row, next)) => {
                 rows.push(row)?;
                 place = next;
@@ -37,7 +37,7 @@ fn rows_of(alloc: Global, form: Form, text: &[u8]) -> Result<Vec<Row>, TextFault
             }
         }
     }
-    at_end(place, records.taken)?;
+    at_end(&place, records.taken)?;
     Ok(rows)
 }
 

@@ -121,6 +121,16 @@ pub enum EventRow {
     },
 }
 
+/// A row that runs an office. Slots are counted from 1.
+#[derive(Clone, Copy, Debug, PartialEq, Eq)]
+pub enum OfficeRow {
+    /// A session of a party with the book of a slot begins: the calls behind this row are its own.
+    Session { slot: u32, party: Name },
+    /// The sessions so far are run, and then the desk goes round the books at this moment, in seconds since
+    /// 1970-01-01T00:00:00Z.
+    Desk { moment: Moment },
+}
+
 /// A row of a text, by what its kind of rows builds.
 #[derive(Debug, Drop)]
 pub enum Row {
@@ -143,6 +153,8 @@ pub enum Row {
     },
     /// A call of the book of a gas day.
     Event(EventRow),
+    /// A session of an office, or a desk round.
+    Office(OfficeRow),
     /// The scheduled quantity of a line in dekatherms a gas day; lines are counted from 1.
     Sched {
         line: u32,
@@ -159,5 +171,10 @@ pub enum Row {
     Inside {
         member: Member,
         name: Name,
+    },
+    /// A line that a posting bumped, and by how many dekatherms a gas day; lines are counted from 1.
+    Bumped {
+        line: u32,
+        quantity: Dth,
     },
 }
