@@ -61,7 +61,8 @@ pub(crate) fn of_fault(alloc: Global, fault: TextFault) -> Result<Answer, AllocE
 
 /// Whether the schedule is allowed, with its class totals, or what is first wrong with it.
 fn check_allowed(alloc: Global, asked: &Asked) -> Result<Answer, AllocError>
-    ensures { IfOk result (λ a. spec.ChecksAllowed asked.now.question asked.now.schedule (answer_seen a)) }
+    ensures { IfOk result
+        (λ a. spec.ChecksAllowed asked.now.question asked.now.schedule (answer_seen a)) }
 {
     match asked.schedule.allowed(alloc, &asked.question) {
         Ok(()) => {
@@ -128,7 +129,8 @@ pub(crate) fn answer_to<R: Read>(
     command: Command,
     reader: &mut R,
 ) -> Result<Answer, AllocError>
-    ensures { IfSome (R.remaining reader.old) (λ text. IfOk result (λ a. spec.MayAnswer command text (answer_seen a))) }
+    ensures { IfSome (R.remaining reader.old) (λ text. IfOk result
+        (λ a. spec.MayAnswer command text (answer_seen a))) }
 {
     match read_bytes(alloc, reader) {
         Ok(text) => answer_of(rt, alloc, command, text.as_slice()),

@@ -18,7 +18,8 @@ use std::alloc::{AllocError, Global};
 
 /// Whether prices show the schedule best.
 fn check_prices(alloc: Global, asked: &Asked, prices: &Prices<Tariff>) -> Result<Answer, AllocError>
-    ensures { IfOk result (λ a. spec.ChecksPrices asked.now.question asked.now.schedule prices.now (answer_seen a)) }
+    ensures { IfOk result
+        (λ a. spec.ChecksPrices asked.now.question asked.now.schedule prices.now (answer_seen a)) }
 {
     match check(alloc, &asked.question, &asked.schedule, prices) {
         Ok(()) => {
@@ -69,7 +70,8 @@ fn check_set(alloc: Global, question: &Question, cut: &Cut) -> Result<Answer, Al
 /// Whether the set that the rows name shows that no schedule of a question is allowed.
 fn check_members(alloc: Global, question: &Question, rows: &[Row]) -> Result<Answer, AllocError>
     ensures { IfOk result
-        (λ a. spec.ChecksMembers question.now (set_of rows.now question.now.pipeline) (answer_seen a)) }
+        (λ a. spec.ChecksMembers question.now (set_of rows.now question.now.pipeline)
+        (answer_seen a)) }
 {
     match members_of(alloc, rows, question.system()) {
         Ok(table) => check_set(alloc, question, &table.cut()),

@@ -48,7 +48,8 @@ pub(crate) fn calendar_of(
 
 /// The answer to a date that has no calendar. Want of memory is handed on as such.
 pub(crate) fn of_no_calendar(alloc: Global, fault: DayFault) -> Result<Answer, AllocError>
-    ensures { IfOk result (λ a. (fault ≢ DayFault.OutOfMemory) × (answer_seen a ≡ spec.refused (spec.no_calendar fault))) }
+    ensures { IfOk result (λ a. (fault ≢ DayFault.OutOfMemory)
+        × (answer_seen a ≡ spec.refused (spec.no_calendar fault))) }
 {
     match fault {
         DayFault::OutOfRange => of_one(alloc, Reply::OutOfRange, 1),

@@ -38,7 +38,8 @@ fn tell<W: Write>(alloc: Global, writer: &mut W, replies: &[Reply], short: bool,
 /// Tells that memory ran out, which needs none.
 fn tell_no_memory<W: Write>(writer: &mut W) -> u8
     ensures front { (n : ℕ) × (n ≤ length (lines_of (no_memory ∷ [])))
-        × Appends (W.contents writer.old) (W.contents writer.new) (take n (lines_of (no_memory ∷ []))) }
+        × Appends (W.contents writer.old) (W.contents writer.new) (take n (lines_of (no_memory
+        ∷ []))) }
     ensures status { result ≡ 2 }
 {
     let _ = write_bytes(writer, b"fault,0,OutOfMemory,,,,,\n");
@@ -57,7 +58,8 @@ pub fn run<R: Read, W: Write>(
     reader: &mut R,
     writer: &mut W,
 ) -> u8
-    ensures { IfSome (R.remaining reader.old) (λ text. Answers command text (W.contents writer.old) (W.contents writer.new) result) }
+    ensures { IfSome (R.remaining reader.old)
+        (λ text. Answers command text (W.contents writer.old) (W.contents writer.new) result) }
 {
     match answer_to(rt, alloc, command, reader) {
         Ok(answer) => tell(

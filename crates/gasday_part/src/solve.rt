@@ -29,7 +29,8 @@ fn tell_schedule(
     prices: &Prices<Tariff>,
 ) -> Result<Answer, AllocError>
     requires allowed { IsAllowed question.now.asked schedule.now }
-    requires priced { IsPricedByTariff question.now.asked schedule.now (map class_words prices.now) }
+    requires priced { IsPricedByTariff question.now.asked schedule.now
+        (map class_words prices.now) }
     requires best { IsBest question.now.asked schedule.now }
     ensures { IfOk result (λ a. spec.Solves question.now (answer_seen a)) }
 {

@@ -29,7 +29,8 @@ impl Model for Board {
 
     ghost Value = { List ℕ };
 
-    ghost view = { λ b. cell_name b.timely ∷ cell_name b.evening ∷ cell_name b.intraday_1 ∷ cell_name b.intraday_2 ∷ cell_name b.intraday_3 ∷ [] };
+    ghost view = { λ b. cell_name b.timely ∷ cell_name b.evening ∷ cell_name b.intraday_1
+        ∷ cell_name b.intraday_2 ∷ cell_name b.intraday_3 ∷ [] };
 }
 
 impl Board {

@@ -26,8 +26,10 @@ impl Model for BoardNote {
     ghost Value = { Knowledge };
 
     ghost view = { λ n. record {
-      cells = n.timely.cell ∷ n.evening.cell ∷ n.intraday_1.cell ∷ n.intraday_2.cell ∷ n.intraday_3.cell ∷ [];
-      known = n.timely.known ∷ n.evening.known ∷ n.intraday_1.known ∷ n.intraday_2.known ∷ n.intraday_3.known ∷ [];
+      cells = n.timely.cell ∷ n.evening.cell ∷ n.intraday_1.cell ∷ n.intraday_2.cell
+          ∷ n.intraday_3.cell ∷ [];
+      known = n.timely.known ∷ n.evening.known ∷ n.intraday_1.known ∷ n.intraday_2.known
+          ∷ n.intraday_3.known ∷ [];
     } };
 }
 
@@ -38,7 +40,8 @@ impl BoardNote {
     pub fn compare(&mut self, other: BoardNote)
         requires { other.cells ≡ self.old.cells }
         ensures same { self.new ≡ self.old }
-        ensures agree { (cycle : ℕ) → IfSome (known_of other cycle) (Agrees (known_of self.old cycle)) }
+        ensures agree { (cycle : ℕ)
+            → IfSome (known_of other cycle) (Agrees (known_of self.old cycle)) }
     {
         let BoardNote {
             timely,

@@ -94,7 +94,8 @@ impl Book {
         key: LineKey,
         quantity: Dth,
     ) -> Result<Reply, Refusal>
-        ensures step { Step self.old.day self.old.history (event.Nominate moment party key quantity) result self.new.history }
+        ensures step { Step self.old.day self.old.history
+            (event.Nominate moment party key quantity) result self.new.history }
         ensures day { self.new.day ≡ self.old.day }
     {
         self.step(Event::Nominate {
@@ -119,7 +120,8 @@ impl Book {
         end: End,
         quantity: Dth,
     ) -> Result<Reply, Refusal>
-        ensures step { Step self.old.day self.old.history (event.Respond moment party line end quantity) result self.new.history }
+        ensures step { Step self.old.day self.old.history
+            (event.Respond moment party line end quantity) result self.new.history }
         ensures day { self.new.day ≡ self.old.day }
     {
         self.step(Event::Respond {
@@ -142,7 +144,8 @@ impl Book {
         element: Element,
         capacity: Dth,
     ) -> Result<Reply, Refusal>
-        ensures step { Step self.old.day self.old.history (event.PostCapacity moment element capacity) result self.new.history }
+        ensures step { Step self.old.day self.old.history
+            (event.PostCapacity moment element capacity) result self.new.history }
         ensures day { self.new.day ≡ self.old.day }
     {
         self.step(Event::PostCapacity {
@@ -158,7 +161,8 @@ impl Book {
     ///
     /// In this order: `AllSettled`, `Frozen`, `TooEarly`, `TooManyEvents`, `OutOfMemory`.
     pub fn freeze(&mut self, moment: Moment) -> Result<Reply, Refusal>
-        ensures step { Step self.old.day self.old.history (event.Freeze moment) result self.new.history }
+        ensures step { Step self.old.day self.old.history
+            (event.Freeze moment) result self.new.history }
         ensures day { self.new.day ≡ self.old.day }
     {
         self.step(Event::Freeze { moment })
@@ -180,7 +184,8 @@ impl Book {
         note: &mut BoardNote,
     ) -> Result<Reply, Refusal>
         requires { note.old.cells ≡ board.now }
-        ensures step { Step self.old.day self.old.history (event.Publish moment certificate) result self.new.history }
+        ensures step { Step self.old.day self.old.history
+            (event.Publish moment certificate) result self.new.history }
         ensures day { self.new.day ≡ self.old.day }
         ensures board { note.new.cells ≡ note.old.cells }
         ensures posted { OnOk result (IsPosted self.old.day self.old.history certificate
@@ -200,7 +205,8 @@ impl Book {
     ///
     /// In this order: `NotFrozen`, `StaleRound`, `NoCutProof`, `TooManyEvents`, `OutOfMemory`.
     pub fn declare(&mut self, moment: Moment, round: Round, cut: Cut) -> Result<Reply, Refusal>
-        ensures step { Step self.old.day self.old.history (event.Declare moment round cut) result self.new.history }
+        ensures step { Step self.old.day self.old.history
+            (event.Declare moment round cut) result self.new.history }
         ensures day { self.new.day ≡ self.old.day }
     {
         self.step(Event::Declare { moment, round, cut })
@@ -212,7 +218,8 @@ impl Book {
     ///
     /// In this order: `AllSettled`, `Frozen`, `NoCut`, `UnknownLine`, `TooManyEvents`, `OutOfMemory`.
     pub fn waive(&mut self, moment: Moment, line: u32) -> Result<Reply, Refusal>
-        ensures step { Step self.old.day self.old.history (event.Waive moment line) result self.new.history }
+        ensures step { Step self.old.day self.old.history
+            (event.Waive moment line) result self.new.history }
         ensures day { self.new.day ≡ self.old.day }
     {
         self.step(Event::Waive { moment, line })
@@ -224,7 +231,8 @@ impl Book {
     ///
     /// In this order: `AllSettled`, `Frozen`, `NoCut`, `TooManyEvents`, `OutOfMemory`.
     pub fn skip(&mut self, moment: Moment) -> Result<Reply, Refusal>
-        ensures step { Step self.old.day self.old.history (event.Skip moment) result self.new.history }
+        ensures step { Step self.old.day self.old.history
+            (event.Skip moment) result self.new.history }
         ensures day { self.new.day ≡ self.old.day }
     {
         self.step(Event::Skip { moment })
@@ -240,7 +248,8 @@ impl Book {
     /// The frozen question, if the cycle is frozen.
     pub fn frozen(&self) -> Option<&Question>
         ensures { MatchOption result (is_frozen self.now.history ≡ false)
-            (λ asked. (is_frozen self.now.history ≡ true) × (asked.now ≡ question self.now.day self.now.history)) }
+            (λ asked. (is_frozen self.now.history ≡ true)
+            × (asked.now ≡ question self.now.day self.now.history)) }
     {
         self.ledger.tables.frozen()
     }

@@ -46,7 +46,8 @@ impl Ledger {
         ensures kept { IsKept self.new }
         ensures day { self.new.opening ≡ self.old.opening }
         ensures same { self.new.history.items ≡ self.old.history.items }
-        ensures ok { OnOk result (refusal_of self.old.opening self.old.history.items event.now ≡ None) }
+        ensures ok { OnOk result (refusal_of self.old.opening self.old.history.items event.now
+            ≡ None) }
         ensures room { OnOk result (vec_len self.new.history < vec_capacity self.new.history) }
         ensures err { IfErr result
             (λ refusal. MayRefuse self.old.opening self.old.history.items event.now refusal) }
@@ -79,7 +80,8 @@ impl Ledger {
         requires passed { Passes event }
         ensures kept { IsKept self.new }
         ensures day { self.new.opening ≡ self.old.opening }
-        ensures step { Step self.old.opening self.old.history.items event result self.new.history.items }
+        ensures step { Step self.old.opening self.old.history.items event result
+            self.new.history.items }
     {
         self.ready(&event)?;
         let (reply, told) = self.replies(alloc, &event)?;
@@ -98,10 +100,14 @@ impl Ledger {
         reply: &Reply,
     ) -> Result<(CycleNo, Box<Posting>), AllocError>
         requires kept { IsKept self.now }
-        requires accepted { refusal_of self.now.opening self.now.history.items (event.Publish moment certificate.now) ≡ None }
-        requires reply { reply.now ≡ reply_of self.now.opening self.now.history.items (event.Publish moment certificate.now) }
+        requires accepted { refusal_of self.now.opening self.now.history.items
+            (event.Publish moment certificate.now) ≡ None }
+        requires reply { reply.now
+            ≡ reply_of self.now.opening self.now.history.items
+            (event.Publish moment certificate.now) }
         ensures cycle { IfOk result (λ posted. posted.0 ≡ cycle_of self.now.history.items) }
-        ensures tells { IfOk result (λ posted. Tells self.now.opening self.now.history.items certificate.now posted.1.value) }
+        ensures tells { IfOk result (λ posted. Tells self.now.opening self.now.history.items
+            certificate.now posted.1.value) }
     {
         let _ = moment;
         let Reply::Published {
@@ -164,7 +170,8 @@ impl Ledger {
         ensures kept { IsKept self.new }
         ensures day { self.new.opening ≡ self.old.opening }
         ensures same { self.new.history.items ≡ self.old.history.items }
-        ensures ok { OnOk result (refusal_of self.old.opening self.old.history.items event.now ≡ None) }
+        ensures ok { OnOk result (refusal_of self.old.opening self.old.history.items event.now
+            ≡ None) }
         ensures replies { IfOk result (λ both.
             (both.0 ≡ reply_of self.old.opening self.old.history.items event.now)
             × (both.1 ≡ reply_of self.old.opening self.old.history.items event.now)) }
@@ -205,7 +212,8 @@ impl Ledger {
         requires board { note.old.cells ≡ board.now }
         ensures kept { IsKept self.new }
         ensures day { self.new.opening ≡ self.old.opening }
-        ensures step { Step self.old.opening self.old.history.items event result self.new.history.items }
+        ensures step { Step self.old.opening self.old.history.items event result
+            self.new.history.items }
         ensures board { note.new.cells ≡ note.old.cells }
         ensures posted { OnOk result (Posts self.old.opening self.old.history.items
             (known_of note.new (cycle_of self.old.history.items)) event) }

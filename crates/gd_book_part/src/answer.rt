@@ -64,8 +64,10 @@ impl Tables {
         quantity: Dth,
     ) -> Reply
         requires kept { AreTablesOf opening.now self.now history.now }
-        requires accepted { refusal_of opening.now history.now (event.Nominate moment party key.now quantity) ≡ None }
-        ensures { result ≡ reply_of opening.now history.now (event.Nominate moment party key.now quantity) }
+        requires accepted { refusal_of opening.now history.now
+            (event.Nominate moment party key.now quantity) ≡ None }
+        ensures { result
+            ≡ reply_of opening.now history.now (event.Nominate moment party key.now quantity) }
     {
         let _ = party;
         let _ = quantity;
@@ -123,7 +125,8 @@ impl Tables {
         cut: &Cut,
     ) -> Reply
         requires kept { AreTablesOf opening.now self.now history.now }
-        requires accepted { refusal_of opening.now history.now (event.Declare moment round cut.now) ≡ None }
+        requires accepted { refusal_of opening.now history.now
+            (event.Declare moment round cut.now) ≡ None }
         ensures { result ≡ reply_of opening.now history.now (event.Declare moment round cut.now) }
     {
         let _ = moment;

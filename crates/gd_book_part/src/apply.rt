@@ -48,7 +48,8 @@ impl Tables {
     fn former_place(&self, opening: &Opening, history: &[(Event, Reply)]) -> usize
         requires kept { AreTablesOf opening.now self.now history.now }
         requires current { cycle_of history.now ≤ CycleNo.MAX }
-        ensures { Brings history.now result (get_or (schedules history.now) (cycle_of history.now - 1) []) }
+        ensures { Brings history.now result (get_or (schedules history.now)
+            (cycle_of history.now - 1) []) }
     {
         let _ = opening;
         let _ = history;
@@ -70,7 +71,8 @@ impl Tables {
         quantity: Dth,
     )
         requires kept { AreTablesOf opening.now self.old history.now }
-        requires accepted { refusal_of opening.now history.now (event.Respond moment party line end quantity) ≡ None }
+        requires accepted { refusal_of opening.now history.now
+            (event.Respond moment party line end quantity) ≡ None }
         ensures { (reply : AReply) → AreTablesOf opening.now self.new
             (history.now ++ (event.Respond moment party line end quantity, reply) ∷ []) }
     {
@@ -95,7 +97,8 @@ impl Tables {
         capacity: Dth,
     )
         requires kept { AreTablesOf opening.now self.old history.now }
-        requires accepted { refusal_of opening.now history.now (event.PostCapacity moment element capacity) ≡ None }
+        requires accepted { refusal_of opening.now history.now
+            (event.PostCapacity moment element capacity) ≡ None }
         ensures { (reply : AReply) → AreTablesOf opening.now self.new
             (history.now ++ (event.PostCapacity moment element capacity, reply) ∷ []) }
     {
@@ -116,7 +119,8 @@ impl Tables {
         cut: &Cut,
     )
         requires kept { AreTablesOf opening.now self.old history.now }
-        requires accepted { refusal_of opening.now history.now (event.Declare moment round cut.now) ≡ None }
+        requires accepted { refusal_of opening.now history.now
+            (event.Declare moment round cut.now) ≡ None }
         ensures { (reply : AReply) → AreTablesOf opening.now self.new
             (history.now ++ (event.Declare moment round cut.now, reply) ∷ []) }
     {
@@ -175,7 +179,8 @@ impl Tables {
         certificate: &Checked,
     )
         requires kept { AreTablesOf opening.now self.old history.now }
-        requires accepted { refusal_of opening.now history.now (event.Publish moment certificate.now) ≡ None }
+        requires accepted { refusal_of opening.now history.now
+            (event.Publish moment certificate.now) ≡ None }
         ensures { (reply : AReply) → AreTablesOf opening.now self.new
             (history.now ++ (event.Publish moment certificate.now, reply) ∷ []) }
     {

@@ -234,7 +234,8 @@ fn put_line(builder: &mut QuestionBuilder, terms: Terms) -> Result<(), AllocErro
     requires bounds { terms.floor ≤ terms.ceiling }
     requires few { length builder.old.asked.lines < MAX_LINES }
     ensures { OnOk result (builder.new ≡ with_line builder.old (line_over builder.old.pipeline
-        (ends_of builder.old.pipeline terms.key.origin terms.key.dest) terms.class terms.floor terms.ceiling)) }
+        (ends_of builder.old.pipeline terms.key.origin terms.key.dest) terms.class terms.floor
+        terms.ceiling)) }
 {
     let Terms {
         key,

@@ -85,7 +85,8 @@ impl Tables {
         requires kept { AreTablesOf opening.now self.now history.now }
         requires sound { IsSound opening.now history.now }
         requires current { cycle ≡ cycle_of history.now }
-        ensures { IfOk result (λ bumped. bumped ≡ bumped_lines opening.now history.now schedule.now) }
+        ensures { IfOk result (λ bumped. bumped
+            ≡ bumped_lines opening.now history.now schedule.now) }
     {
         let count = self.asked_lines(opening, history, cycle);
         let mut lines = Vec::new(alloc);
@@ -107,7 +108,8 @@ impl Tables {
     ) -> Result<Reply, AllocError>
         requires kept { AreTablesOf opening.now self.now history.now }
         requires sound { IsSound opening.now history.now }
-        requires accepted { refusal_of opening.now history.now (event.Publish moment certificate.now) ≡ None }
+        requires accepted { refusal_of opening.now history.now
+            (event.Publish moment certificate.now) ≡ None }
         ensures { IfOk result (λ reply. reply
             ≡ reply_of opening.now history.now (event.Publish moment certificate.now)) }
     {

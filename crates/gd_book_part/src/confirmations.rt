@@ -72,7 +72,12 @@ impl Confirmation {
 
     /// The same, and the line is waived.
     pub(crate) fn waived(self) -> Confirmation
-        ensures { result ≡ record { cycle = self.cycle; origin = self.origin; dest = self.dest; waived = true } }
+        ensures { result ≡ record {
+          cycle = self.cycle;
+          origin = self.origin;
+          dest = self.dest;
+          waived = true;
+        } }
     {
         Confirmation {
             waived: true,

@@ -46,7 +46,8 @@ fn accept(
 ) -> Result<u32, Refusal>
     requires rising { All (λ former. former.cycle ≤ cycle) lines.old }
     requires few { is_err (numbered lines.old key.now) ≡ false }
-    ensures done { OnOk result (lines.new ≡ lines.old ++ nomination key.now cycle class quantity ∷ []) }
+    ensures done { OnOk result (lines.new
+        ≡ lines.old ++ nomination key.now cycle class quantity ∷ []) }
     ensures number { IfOk result (λ line. numbered lines.old key.now ≡ Ok line) }
     ensures same { OnErr result (lines.new ≡ lines.old) }
     ensures memory { IfErr result (λ r. r ≡ refusal.OutOfMemory) }
@@ -71,7 +72,8 @@ fn make_room(entries: &mut Vec<Confirmation>) -> Result<(), Refusal>
 fn enter<T: Copy>(entries: &mut Vec<T>, at: usize, last: T)
     requires { vec_len entries.old < vec_capacity entries.old }
     ensures { entries.new.items
-        ≡ (if at == length entries.old.items then entries.old.items ++ last ∷ [] else entries.old.items) }
+        ≡ (if at == length entries.old.items then entries.old.items
+        ++ last ∷ [] else entries.old.items) }
 {
     if at == entries.len() {
         entries.push_reserved(last);
@@ -91,9 +93,14 @@ impl Tables {
     ) -> Result<(), Refusal>
         requires kept { AreTablesOf opening.now self.old history.now }
         requires sound { IsSound opening.now history.now }
-        requires accepted { refusal_of opening.now history.now (event.Nominate moment party key.now quantity) ≡ None }
+        requires accepted { refusal_of opening.now history.now
+            (event.Nominate moment party key.now quantity) ≡ None }
         ensures done { OnOk result (AreTablesOf opening.now self.new
-            (history.now ++ (event.Nominate moment party key.now quantity, reply_of opening.now history.now (event.Nominate moment party key.now quantity)) ∷ [])) }
+            (history.now ++ (
+              event.Nominate moment party key.now quantity,
+              reply_of opening.now
+                  history.now (event.Nominate moment party key.now quantity),
+            ) ∷ [])) }
         ensures same { OnErr result (AreTablesOf opening.now self.new history.now) }
         ensures memory { IfErr result (λ r. r ≡ refusal.OutOfMemory) }
     {

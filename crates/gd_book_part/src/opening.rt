@@ -60,9 +60,19 @@ impl Model for Opening {
 
     ghost Value = { Day };
 
-    ghost view = { λ o. record { name = o.name; held = o.contracts; moments = o.calendar; carry = o.carry.entries } };
+    ghost view = { λ o. record {
+      name = o.name;
+      held = o.contracts;
+      moments = o.calendar;
+      carry = o.carry.entries;
+    } };
 
-    ghost invariant = { λ o. IsDay (record { name = o.name; held = o.contracts; moments = o.calendar; carry = o.carry.entries }) };
+    ghost invariant = { λ o. IsDay (record {
+      name = o.name;
+      held = o.contracts;
+      moments = o.calendar;
+      carry = o.carry.entries;
+    }) };
 }
 
 /// Adds a new line with what is carried over of it, last, in room that is there.

@@ -137,7 +137,8 @@ impl Tables {
         quantity: Dth,
     ) -> Option<Refusal>
         requires { AreTablesOf opening.now self.now history.now }
-        ensures { result ≡ refusal_of opening.now history.now (event.Respond moment party line end quantity) }
+        ensures { result
+            ≡ refusal_of opening.now history.now (event.Respond moment party line end quantity) }
     {
         let _ = moment;
         let _ = quantity;
@@ -169,7 +170,8 @@ impl Tables {
         capacity: Dth,
     ) -> Option<Refusal>
         requires { AreTablesOf opening.now self.now history.now }
-        ensures { result ≡ refusal_of opening.now history.now (event.PostCapacity moment element capacity) }
+        ensures { result
+            ≡ refusal_of opening.now history.now (event.PostCapacity moment element capacity) }
     {
         let _ = moment;
         let _ = capacity;
@@ -277,7 +279,8 @@ impl Tables {
     fn nominated_last(&self, opening: &Opening, history: &[(Event, Reply)], key: &LineKey) -> u64
         requires kept { AreTablesOf opening.now self.now history.now }
         requires sound { IsSound opening.now history.now }
-        ensures is { result ≡ last_quantity (of_line key.now (nominations opening.now history.now)) }
+        ensures is { result
+            ≡ last_quantity (of_line key.now (nominations opening.now history.now)) }
     {
         let _ = opening;
         let _ = history;
@@ -332,7 +335,8 @@ impl Tables {
     ) -> Option<Refusal>
         requires kept { AreTablesOf opening.now self.now history.now }
         requires sound { IsSound opening.now history.now }
-        ensures { result ≡ refusal_of opening.now history.now (event.Nominate moment party key.now quantity) }
+        ensures { result
+            ≡ refusal_of opening.now history.now (event.Nominate moment party key.now quantity) }
     {
         let stamp = self.stamp.max(moment);
         if opening.calendar().cycle_of(stamp).is_none() {
@@ -368,7 +372,8 @@ impl Tables {
         certificate: &Checked,
     ) -> Option<Refusal>
         requires { AreTablesOf opening.now self.now history.now }
-        ensures { result ≡ refusal_of opening.now history.now (event.Publish moment certificate.now) }
+        ensures { result
+            ≡ refusal_of opening.now history.now (event.Publish moment certificate.now) }
     {
         let _ = moment;
         let Some(question) = &self.frozen else {

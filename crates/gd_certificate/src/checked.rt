@@ -128,7 +128,11 @@ fn keep(
 ) -> Result<Checked, Parts>
     requires { IsRight (record { question = question; schedule = schedule; prices = prices }) }
     ensures kept { IfOk result
-        (λ checked. checked ≡ record { question = question; schedule = schedule; prices = prices }) }
+        (λ checked. checked ≡ record {
+          question = question;
+          schedule = schedule;
+          prices = prices;
+        }) }
     ensures refused { IfErr result
         (λ parts. parts ≡ record { question = question; schedule = schedule; prices = prices }) }
 {

@@ -36,7 +36,11 @@ impl Model for Cut {
 
     ghost Value = { Members };
 
-    ghost view = { λ c. record { places = c.places.items; points = c.points.items; pools = c.pools.items } };
+    ghost view = { λ c. record {
+      places = c.places.items;
+      points = c.points.items;
+      pools = c.pools.items;
+    } };
 }
 
 /// An entry, false past the end.

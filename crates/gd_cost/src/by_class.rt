@@ -33,7 +33,8 @@ pub trait ByClass: Cost {
     ghost one_fits: { (class : ℕ) → IsTrue (Self.within (pos 16) (Self.meaning (one class))) };
 
     /// It fits 16 in each tenth.
-    ghost at_fits: { (class tenth : ℕ) → tenth ≤ 10 → IsTrue (Self.within (pos 16) (Self.meaning (at class tenth))) };
+    ghost at_fits: { (class tenth : ℕ) → tenth ≤ 10
+        → IsTrue (Self.within (pos 16) (Self.meaning (at class tenth))) };
 
     /// No dekatherm of a later tenth is worth more.
     ghost never_rises: { NeverRises Self.scale (λ class tenth. Self.meaning (at class tenth)) };
@@ -62,9 +63,18 @@ impl ByClass for Lex<8> {
 }
 
 impl ByClass for Pair<Lex<8>, Lex<8>> {
-    ghost one = { λ class. record { first = record { words = listed 8 (at_class class (pos 1)) }; second = record { words = listed 8 (λ k. pos 0) } } };
+    ghost one = { λ class. record {
+      first = record { words = listed 8 (at_class class (pos 1)) };
+      second = record { words = listed 8 (λ k. pos 0) };
+    } };
 
-    ghost at = { λ class tenth. record { first = record { words = listed 8 (at_class class (pos 1)) }; second = record { words = listed 8 (at_class class (neg_ℤ (pos tenth))) } } };
+    ghost at = { λ class tenth. record {
+      first = record {
+        words = listed 8 (at_class class
+            (pos 1));
+      };
+      second = record { words = listed 8 (at_class class (neg_ℤ (pos tenth))) };
+    } };
 
     ghost one_fits = { one_pair_fits };
 

@@ -29,8 +29,10 @@ pub fn run(
     requires board { note.old.cells ≡ board.now }
     requires pass { AllPass book.old.day.held.pipeline (calls_of rows.now) }
     requires empty { told.old.items ≡ [] }
-    ensures ok { OnOk result (spec.Runs book.old.day book.old.history (calls_of rows.now) told.new.items book.new.history) }
-    ensures err { OnErr result (spec.RunsInPart book.old.day book.old.history (calls_of rows.now) told.new.items) }
+    ensures ok { OnOk result (spec.Runs book.old.day book.old.history
+        (calls_of rows.now) told.new.items book.new.history) }
+    ensures err { OnErr result (spec.RunsInPart book.old.day book.old.history
+        (calls_of rows.now) told.new.items) }
     ensures day { book.new.day ≡ book.old.day }
     ensures board { note.new.cells ≡ note.old.cells }
 {

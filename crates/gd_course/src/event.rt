@@ -81,7 +81,8 @@ fn post(
 }
 
 fn freeze(alloc: Global, book: &mut Book, moment: Moment) -> Result<Vec<Reply>, AllocError>
-    ensures gives { IfOk result (λ rows. Steps Call.Freeze book.old.day book.old.history (event.Freeze moment)
+    ensures gives { IfOk result
+        (λ rows. Steps Call.Freeze book.old.day book.old.history (event.Freeze moment)
         rows.items book.new.history) }
     ensures day { book.new.day ≡ book.old.day }
 {
@@ -105,7 +106,8 @@ fn waive(
 }
 
 fn skip(alloc: Global, book: &mut Book, moment: Moment) -> Result<Vec<Reply>, AllocError>
-    ensures gives { IfOk result (λ rows. Steps Call.Skip book.old.day book.old.history (event.Skip moment)
+    ensures gives { IfOk result
+        (λ rows. Steps Call.Skip book.old.day book.old.history (event.Skip moment)
         rows.items book.new.history) }
     ensures day { book.new.day ≡ book.old.day }
 {
@@ -127,7 +129,8 @@ fn publish(
 ) -> Result<Vec<Reply>, AllocError>
     requires board { note.old.cells ≡ board.now }
     requires passes { Passes book.old.day.held.pipeline group.now }
-    ensures gives { IfOk result (λ rows. spec.Publishes book.old.day book.old.history moment round group.now
+    ensures gives { IfOk result
+        (λ rows. spec.Publishes book.old.day book.old.history moment round group.now
         rows.items book.new.history) }
     ensures day { book.new.day ≡ book.old.day }
     ensures board { note.new.cells ≡ note.old.cells }
@@ -159,7 +162,8 @@ fn declare(
     group: &[Row],
 ) -> Result<Vec<Reply>, AllocError>
     requires { Passes book.old.day.held.pipeline group.now }
-    ensures gives { IfOk result (λ rows. spec.Declares book.old.day book.old.history moment round group.now
+    ensures gives { IfOk result
+        (λ rows. spec.Declares book.old.day book.old.history moment round group.now
         rows.items book.new.history) }
     ensures day { book.new.day ≡ book.old.day }
 {

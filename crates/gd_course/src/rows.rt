@@ -78,7 +78,8 @@ fn pair_rows(
 fn last_rows(alloc: Global, book: &Book) -> Result<Vec<Reply>, AllocError>
     ensures { (h : History) (event : AnEvent) (reply : ABookReply)
         → book.now.history ≡ h ++ (event, reply) ∷ []
-        → IfOk result (λ rows. rows.items ≡ spec.accepted_rows book.now.day book.now.history event reply) }
+        → IfOk result (λ rows. rows.items
+        ≡ spec.accepted_rows book.now.day book.now.history event reply) }
 {
     let history = book.history();
     let Some(at) = history.len().checked_sub(1) else {

@@ -53,7 +53,8 @@ pub(crate) fn publish_frozen(
 ) -> Result<Vec<Reply>, AllocError>
     requires board { note.old.cells ≡ board.now }
     requires frozen { is_frozen book.old.history ≡ true }
-    ensures gives { IfOk result (λ rows. spec.PublishesFrozen book.old.day book.old.history offer.moment offer.schedule offer.prices
+    ensures gives { IfOk result (λ rows. spec.PublishesFrozen book.old.day book.old.history
+        offer.moment offer.schedule offer.prices
         rows.items book.new.history) }
     ensures day { book.new.day ≡ book.old.day }
     ensures board { note.new.cells ≡ note.old.cells }
@@ -90,7 +91,8 @@ fn publish_found(
     requires board { note.old.cells ≡ board.now }
     requires frozen { is_frozen book.old.history ≡ true }
     requires allowed { IsAllowed (question_of book.old.day book.old.history).asked offer.schedule }
-    requires priced { IsPricedByTariff (question_of book.old.day book.old.history).asked offer.schedule
+    requires priced { IsPricedByTariff
+        (question_of book.old.day book.old.history).asked offer.schedule
         (map class_words offer.prices) }
     ensures gives { IfOk result (λ rows. spec.Settles book.old.day book.old.history offer.moment
         rows.items book.new.history) }
@@ -122,7 +124,8 @@ pub(crate) fn declare_as(
     round: Round,
     cut: Cut,
 ) -> Result<Vec<Reply>, AllocError>
-    ensures gives { IfOk result (λ rows. Steps call book.old.day book.old.history (event.Declare moment round cut)
+    ensures gives { IfOk result
+        (λ rows. Steps call book.old.day book.old.history (event.Declare moment round cut)
         rows.items book.new.history) }
     ensures day { book.new.day ≡ book.old.day }
 {

@@ -40,7 +40,8 @@ pub fn offered_prices(
     system: &System,
 ) -> Result<Prices<Tariff>, AllocError>
     requires { IsOk (table_of group.now system.now) }
-    ensures { IfOk result (λ prices. IfOk (table_of group.now system.now) (λ table. ArePrices table prices)) }
+    ensures { IfOk result (λ prices. IfOk (table_of group.now system.now)
+        (λ table. ArePrices table prices)) }
 {
     match prices_of(alloc, group, system) {
         Ok(table) => table.prices(alloc),

@@ -21,7 +21,8 @@ fn add_carry(
 ) -> Result<(), TextFault>
     requires kept { keys.old.keys ≡ spec.keys carry.old.items }
     requires distinct { IsDistinct same_key keys.old.keys }
-    ensures added { MayBecome carry.new.items result (spec.carry_step number carry.old.items row.now) }
+    ensures added { MayBecome carry.new.items result
+        (spec.carry_step number carry.old.items row.now) }
     ensures kept { OnOk result (keys.new.keys ≡ spec.keys carry.new.items) }
     ensures distinct { IsDistinct same_key keys.new.keys }
 {

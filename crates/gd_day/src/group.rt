@@ -50,7 +50,8 @@ fn check_prices(
 ) -> Result<(), TextFault>
     requires sized { length last.old ≡ classes * length (elements_of system.now) }
     requires within { first + length group.now < 2 ^ 64 }
-    ensures { Becomes last.new result (built_from (mark_step system.now first) first last.old group.now) }
+    ensures { Becomes last.new result (built_from
+        (mark_step system.now first) first last.old group.now) }
 {
     'rows: for (index, row) in group.iter().enumerate() {
         mark_price(last, system, first, first + index as u64, row)?;
@@ -60,7 +61,8 @@ fn check_prices(
 
 /// Checks that there is a place, point or pool of this name, whichever is asked for.
 fn check_name(system: &System, number: u64, member: Member, name: Name) -> Result<(), TextFault>
-    ensures { result ≡ spec.checked (with_member number system.now (none_inside system.now) member name) }
+    ensures { result
+        ≡ spec.checked (with_member number system.now (none_inside system.now) member name) }
 {
     let unknown = TextFault::at(number, Cause::UnknownElement);
     if let Member::Place = member {

@@ -45,7 +45,13 @@ pub struct DayText {
 /// price, then `UnknownElement` for a member, at its row. Else `OutOfMemory`.
 pub fn day_text_of(alloc: Global, rows: &[Row]) -> Result<DayText, TextFault>
     ensures values { Builds
-        (λ d. record { date = d.date; zone = d.zone; book = d.book; held = d.contracts; carry = d.carry.items })
+        (λ d. record {
+          date = d.date;
+          zone = d.zone;
+          book = d.book;
+          held = d.contracts;
+          carry = d.carry.items;
+        })
         result (spec.opened_of rows.now) }
     ensures distinct { IfOk result (λ d. IsDistinct same_key (keys d.carry.items)) }
     ensures passed { IfOk result (λ d. AllPass d.contracts.pipeline (calls_of rows.now)) }

@@ -12,7 +12,8 @@ use std::alloc::{AllocError, Global};
 /// Each element is a segment, a point or a pool, since the last one has a name.
 fn elements_are_named(question: &Question)
     ensures { length question.now.asked.elements
-        ≤ length question.now.pipeline.tree + length question.now.pipeline.points + length question.now.pipeline.pools }
+        ≤ length question.now.pipeline.tree + length question.now.pipeline.points
+        + length question.now.pipeline.pools }
 {
     question.system().known();
     let count = question.element_count();

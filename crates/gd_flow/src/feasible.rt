@@ -34,7 +34,11 @@ impl<'q> Feasible<'q> {
         requires size { length flow ≡ length network.arcs }
         requires balances { IsCirculation network.arcs flow }
         requires within { IsWithin network.arcs flow }
-        ensures { result ≡ record { question = network.entry.question; arcs = network.entry.arcs; flow = flow } }
+        ensures { result ≡ record {
+          question = network.entry.question;
+          arcs = network.entry.arcs;
+          flow = flow;
+        } }
     {
         Feasible { network, flow }
     }

@@ -31,8 +31,10 @@ impl Search {
     fn start(alloc: Global, nodes: usize, node: usize) -> Result<Search, AllocError>
         requires { node < nodes }
         ensures size { IfOk result (λ s. length s.marks.items ≡ nodes) }
-        ensures first { IfOk result (λ s. (length s.finds.items ≡ 1) × ((find_at s 0).node ≡ node)) }
-        ensures marks { IfOk result (λ s. s.marks.items ≡ slice_set (replicate nodes false) node true) }
+        ensures first { IfOk result (λ s. (length s.finds.items ≡ 1)
+            × ((find_at s 0).node ≡ node)) }
+        ensures marks { IfOk result (λ s. s.marks.items
+            ≡ slice_set (replicate nodes false) node true) }
     {
         let mut marks = vec![in alloc; false; nodes]?;
         marks[node] = true;
@@ -63,7 +65,8 @@ impl Search {
         requires arc { step.arc < length network.now.arcs }
         ensures search { OnOk result (IsSearch network.now flow.now self.new) }
         ensures grows { OnOk result (Grows self.old self.new) }
-        ensures tried { OnOk result (IsTried network.now.arcs flow.now self.new.marks.items (find_at self.old at).node step) }
+        ensures tried { OnOk result (IsTried network.now.arcs flow.now self.new.marks.items
+            (find_at self.old at).node step) }
     {
         if step.tail(network) != self.finds[at].node || step.room(network, flow) <= 0 {
             return Ok(());
@@ -90,7 +93,8 @@ impl Search {
         ensures search { OnOk result (IsSearch network.now flow.now self.new) }
         ensures grows { OnOk result (Grows self.old self.new) }
         ensures tried { OnOk result ((step : Step) → step.arc < length network.now.arcs
-            → IsTried network.now.arcs flow.now self.new.marks.items (find_at self.old at).node step) }
+            → IsTried network.now.arcs flow.now self.new.marks.items
+            (find_at self.old at).node step) }
     {
         let node = self.finds[at].node;
         for number in network.links(node) {

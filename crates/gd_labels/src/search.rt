@@ -28,7 +28,8 @@ pub(crate) struct Search<C> {
 impl<C: Cost> Search<C> {
     /// Each node is labelled zero by its first event, which has its number. So the search may go on along any links.
     pub(crate) fn start(alloc: Global, nodes: usize) -> Result<Search<C>, AllocError>
-        ensures search { IfOk result (λ search. (links : Links C) → IsSearch C.scale C.within C.meaning links search) }
+        ensures search { IfOk result (λ search. (links : Links C)
+            → IsSearch C.scale C.within C.meaning links search) }
         ensures nodes { IfOk result (λ search. length search.current.items ≡ nodes) }
     {
         let mut search = Search {
@@ -83,7 +84,8 @@ impl<C: Cost> Search<C> {
         requires links { Join C.scale C.within C.meaning (length self.now.current.items) links.now }
         requires link { i < length links.now.from.items }
         requires improves { IsTrue (improves C.scale C.meaning links.now self.now i) }
-        ensures closed { IfOk result (λ closed. closed ≡ true → Gains C.scale C.meaning links.now walk.new.items) }
+        ensures closed { IfOk result (λ closed. closed ≡ true
+            → Gains C.scale C.meaning links.now walk.new.items) }
         ensures avoids { IfOk result (λ closed. closed ≡ false → Avoids links.now self.now i) }
     {
         let end = links.to[i];

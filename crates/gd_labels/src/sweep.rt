@@ -26,8 +26,10 @@ impl<C: Cost> Search<C> {
         requires small { length self.old.current.items < 2 ^ 32 }
         requires links { Join C.scale C.within C.meaning (length self.old.current.items) links.now }
         ensures search { IfOk result (λ _. IsSearch C.scale C.within C.meaning links.now self.new) }
-        ensures nodes { IfOk result (λ _. length self.new.current.items ≡ length self.old.current.items) }
-        ensures swept { IfOk result (AfterSweep C.scale C.size C.rank C.meaning links.now self.old self.new walk.new.items) }
+        ensures nodes { IfOk result (λ _. length self.new.current.items
+            ≡ length self.old.current.items) }
+        ensures swept { IfOk result (AfterSweep C.scale C.size C.rank C.meaning links.now self.old
+            self.new walk.new.items) }
     {
         let mut raised = false;
         for i in 0..links.from.len() {
@@ -56,9 +58,12 @@ impl<C: Cost> Search<C> {
         requires small { length self.old.current.items < 2 ^ 32 }
         requires links { Join C.scale C.within C.meaning (length self.old.current.items) links.now }
         ensures search { IfOk result (λ _. IsSearch C.scale C.within C.meaning links.now self.new) }
-        ensures nodes { IfOk result (λ _. length self.new.current.items ≡ length self.old.current.items) }
-        ensures still { IfOk result (λ found. IfNone found (IsSettled C.scale C.meaning links.now self.new)) }
-        ensures closed { IfOk result (λ found. IfSome found (λ walk. Gains C.scale C.meaning links.now walk.items)) }
+        ensures nodes { IfOk result (λ _. length self.new.current.items
+            ≡ length self.old.current.items) }
+        ensures still { IfOk result
+            (λ found. IfNone found (IsSettled C.scale C.meaning links.now self.new)) }
+        ensures closed { IfOk result (λ found. IfSome found
+            (λ walk. Gains C.scale C.meaning links.now walk.items)) }
     {
         let mut walk = Vec::new(alloc);
         loop {

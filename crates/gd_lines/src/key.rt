@@ -17,7 +17,17 @@ impl Model for LineKey {
 
     ghost Value = { Key };
 
-    ghost view = { λ k. record { contract = k.contract; «package» = k.«package»; origin = k.origin; dest = k.dest } };
+    ghost view = { λ k. record {
+      contract = k.contract;
+      «package» = k.«package»;
+      origin = k.origin;
+      dest = k.dest;
+    } };
 
-    ghost inverse = { λ k. record { contract = k.contract; «package» = k.«package»; origin = k.origin; dest = k.dest } };
+    ghost inverse = { λ k. record {
+      contract = k.contract;
+      «package» = k.«package»;
+      origin = k.origin;
+      dest = k.dest;
+    } };
 }

@@ -13,7 +13,8 @@ use std::test::Fail;
 /// Links from node 0 to 1 to 2 and back to 0, which gain 1, 2 and this.
 fn ring(alloc: Global, last: i128) -> Result<Links<One>, AllocError>
     requires { IsTrue (word_fits (pos 16) last) }
-    ensures { IfOk result (λ links. AreLinks whole word_fits 3 links.from.items links.to.items (map number_of links.gain.items)) }
+    ensures { IfOk result (λ links. AreLinks whole word_fits 3 links.from.items links.to.items
+        (map number_of links.gain.items)) }
 {
     Ok(Links {
         from: Vec::from_array(alloc, [0, 1, 2])?,

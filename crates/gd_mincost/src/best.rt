@@ -34,7 +34,12 @@ impl<'q, C: Cost> Model for Best<'q, C> {
 
     ghost Value = { Settled C };
 
-    ghost view = { λ b. record { question = b.network.question; arcs = b.network.arcs; flow = b.flow; potentials = b.potentials.items } };
+    ghost view = { λ b. record {
+      question = b.network.question;
+      arcs = b.network.arcs;
+      flow = b.flow;
+      potentials = b.potentials.items;
+    } };
 }
 
 impl<'q, C: Cost> Best<'q, C> {

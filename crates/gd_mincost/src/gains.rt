@@ -12,7 +12,8 @@ use std::alloc::{AllocError, Global};
 /// What a dekatherm along an arc gains: nothing along an element's, and along that of a line's tenth what it is worth there.
 pub(crate) fn gain_of<C: ByClass>(network: &Network<'_>, number: usize) -> C
     requires { number < length network.now.arcs }
-    ensures is { IsGainAt C.scale (worth C.meaning C.at) network.now.question.asked number (C.meaning result) }
+    ensures is { IsGainAt C.scale (worth C.meaning C.at) network.now.question.asked number
+        (C.meaning result) }
     ensures small { IsTrue (C.within (pos most_gain) (C.meaning result)) }
 {
     match network.tenth(number) {

@@ -35,7 +35,8 @@ impl Part {
     /// The part after this one: half the room, and at the end of a class the next one with the greatest room.
     pub(crate) fn next(self) -> Option<Part>
         requires { IsPart self }
-        ensures { MatchOption result (IsLast self) (λ next. IsPart next × (after next < after self)) }
+        ensures { MatchOption result (IsLast self) (λ next. IsPart next
+            × (after next < after self)) }
     {
         if self.least > 1 {
             Some(Part {

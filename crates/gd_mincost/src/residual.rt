@@ -42,9 +42,11 @@ impl<C: Cost> Residual<C> {
 
     /// Adds a link for a step.
     fn link(&mut self, step: Step, from: usize, to: usize, gain: C) -> Result<(), AllocError>
-        ensures from { OnOk result (self.new.links.from.items ≡ self.old.links.from.items ++ from ∷ []) }
+        ensures from { OnOk result (self.new.links.from.items
+            ≡ self.old.links.from.items ++ from ∷ []) }
         ensures to { OnOk result (self.new.links.to.items ≡ self.old.links.to.items ++ to ∷ []) }
-        ensures gain { OnOk result (self.new.links.gain.items ≡ self.old.links.gain.items ++ gain ∷ []) }
+        ensures gain { OnOk result (self.new.links.gain.items
+            ≡ self.old.links.gain.items ++ gain ∷ []) }
         ensures steps { OnOk result (self.new.steps.items ≡ self.old.steps.items ++ step ∷ []) }
     {
         self.links.from.push(from)?;
@@ -64,13 +66,17 @@ impl<C: Cost> Residual<C> {
         least: i64,
     ) -> Result<(), AllocError>
         requires arc { step.arc < length network.now.arcs }
-        requires gains { AreGains C.scale C.within (length network.now.arcs) (map C.meaning gains.now) }
+        requires gains { AreGains C.scale C.within (length network.now.arcs)
+            (map C.meaning gains.now) }
         requires near { IsNear network.now.arcs flow.now }
         requires least { pos 0 <ℤ least }
-        requires sound { IsSound C.scale C.meaning network.now.arcs flow.now (map C.meaning gains.now) self.old }
-        ensures sound { OnOk result (IsSound C.scale C.meaning network.now.arcs flow.now (map C.meaning gains.now) self.new) }
+        requires sound { IsSound C.scale C.meaning network.now.arcs flow.now
+            (map C.meaning gains.now) self.old }
+        ensures sound { OnOk result (IsSound C.scale C.meaning network.now.arcs flow.now
+            (map C.meaning gains.now) self.new) }
         ensures kept { OnOk result (Keeps self.old.steps.items self.new.steps.items) }
-        ensures added { OnOk result (least ≤ℤ room network.now.arcs flow.now step → Holds self.new.steps.items step) }
+        ensures added { OnOk result (least ≤ℤ room network.now.arcs flow.now step
+            → Holds self.new.steps.items step) }
     {
         if step.room(network, flow) < least {
             return Ok(());
@@ -94,11 +100,14 @@ impl<C: Cost> Residual<C> {
         arc: usize,
     ) -> Result<(), AllocError>
         requires arc { arc < length network.now.arcs }
-        requires gains { AreGains C.scale C.within (length network.now.arcs) (map C.meaning gains.now) }
+        requires gains { AreGains C.scale C.within (length network.now.arcs)
+            (map C.meaning gains.now) }
         requires near { IsNear network.now.arcs flow.now }
         requires part { IsPart part }
-        requires sound { IsSound C.scale C.meaning network.now.arcs flow.now (map C.meaning gains.now) self.old }
-        ensures sound { OnOk result (IsSound C.scale C.meaning network.now.arcs flow.now (map C.meaning gains.now) self.new) }
+        requires sound { IsSound C.scale C.meaning network.now.arcs flow.now
+            (map C.meaning gains.now) self.old }
+        ensures sound { OnOk result (IsSound C.scale C.meaning network.now.arcs flow.now
+            (map C.meaning gains.now) self.new) }
         ensures kept { OnOk result (Keeps self.old.steps.items self.new.steps.items) }
         ensures added { OnOk result (IsLast part → (step : Step) → step.arc ≡ arc
             → pos 0 <ℤ room network.now.arcs flow.now step → Holds self.new.steps.items step) }
@@ -117,11 +126,14 @@ impl<C: Cost> Residual<C> {
         flow: &[i64],
         part: Part,
     ) -> Result<(), AllocError>
-        requires gains { AreGains C.scale C.within (length network.now.arcs) (map C.meaning gains.now) }
+        requires gains { AreGains C.scale C.within (length network.now.arcs)
+            (map C.meaning gains.now) }
         requires near { IsNear network.now.arcs flow.now }
         requires part { IsPart part }
-        requires sound { IsSound C.scale C.meaning network.now.arcs flow.now (map C.meaning gains.now) self.old }
-        ensures sound { OnOk result (IsSound C.scale C.meaning network.now.arcs flow.now (map C.meaning gains.now) self.new) }
+        requires sound { IsSound C.scale C.meaning network.now.arcs flow.now
+            (map C.meaning gains.now) self.old }
+        ensures sound { OnOk result (IsSound C.scale C.meaning network.now.arcs flow.now
+            (map C.meaning gains.now) self.new) }
         ensures kept { OnOk result (Keeps self.old.steps.items self.new.steps.items) }
     {
         network.known();
@@ -144,10 +156,12 @@ impl<C: Cost> Residual<C> {
         flow: &[i64],
         part: Part,
     ) -> Result<Residual<C>, AllocError>
-        requires gains { AreGains C.scale C.within (length network.now.arcs) (map C.meaning gains.now) }
+        requires gains { AreGains C.scale C.within (length network.now.arcs)
+            (map C.meaning gains.now) }
         requires near { IsNear network.now.arcs flow.now }
         requires part { IsPart part }
-        ensures sound { IfOk result (IsSound C.scale C.meaning network.now.arcs flow.now (map C.meaning gains.now)) }
+        ensures sound { IfOk result (IsSound C.scale C.meaning network.now.arcs flow.now
+            (map C.meaning gains.now)) }
         ensures whole { IfOk result
             (λ residual. IsLast part
             → IsWhole network.now.arcs flow.now (length network.now.arcs) residual.steps.items) }

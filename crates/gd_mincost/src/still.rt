@@ -14,7 +14,8 @@ use gd_network::Network;
 fn improves<C: Cost>(start: C, gain: C, end: C) -> bool
     requires start { IsTrue (C.within (pos (2 ^ 100)) (C.meaning start)) }
     requires gain { IsTrue (C.within (pos (2 ^ 100)) (C.meaning gain)) }
-    ensures { result ≡ false → AtMost C.scale (C.scale.plus (C.meaning start) (C.meaning gain)) (C.meaning end) }
+    ensures { result ≡ false
+        → AtMost C.scale (C.scale.plus (C.meaning start) (C.meaning gain)) (C.meaning end) }
 {
     start.add(gain).cmp(end).is_gt()
 }
@@ -122,7 +123,8 @@ fn are_small<C: Cost>(potentials: &[C]) -> bool
 /// It answers `true` only where they do. It asks for an amount for each arc.
 pub fn show_best<C: ByClass>(network: &Network<'_>, flow: &[i64], potentials: &[C]) -> bool
     requires { length flow.now ≡ length network.now.arcs }
-    ensures nodes { result ≡ true → length potentials.now ≡ length network.now.question.asked.elements + 1 }
+    ensures nodes { result ≡ true
+        → length potentials.now ≡ length network.now.question.asked.elements + 1 }
     ensures small { result ≡ true → AreSmall C.scale C.within (map C.meaning potentials.now) }
     ensures still { result ≡ true
         → ShowsBest C.scale (worth C.meaning C.at)

@@ -41,7 +41,8 @@ pub(crate) fn push_closed<C: Cost>(
     walk: &[usize],
 ) -> Result<(), AllocError>
     requires feasible { IsFeasible network.now.arcs flow.old }
-    requires sound { IsSound C.scale C.meaning network.now.arcs flow.old (map C.meaning gains.now) residual.now }
+    requires sound { IsSound C.scale C.meaning network.now.arcs flow.old
+        (map C.meaning gains.now) residual.now }
     requires closed { IsGaining C.scale residual.now.links.from.items residual.now.links.to.items
         (map C.meaning residual.now.links.gain.items) walk.now }
     ensures feasible { OnOk result (IsFeasible network.now.arcs flow.new) }

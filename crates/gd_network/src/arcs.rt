@@ -122,7 +122,8 @@ fn line_arc(question: &Question, line: usize, tenth: usize) -> Arc
 
 /// The arcs of the elements.
 fn element_arcs(alloc: Global, question: &Question) -> Result<Vec<Arc>, AllocError>
-    ensures { IfOk result (λ arcs. FirstArcs question.now.asked (length question.now.asked.elements) arcs.items) }
+    ensures { IfOk result
+        (λ arcs. FirstArcs question.now.asked (length question.now.asked.elements) arcs.items) }
 {
     question.known();
     let mut arcs = Vec::new(alloc);
@@ -135,8 +136,10 @@ fn element_arcs(alloc: Global, question: &Question) -> Result<Vec<Arc>, AllocErr
 /// Adds the ten arcs of a line.
 fn add_line(question: &Question, line: usize, arcs: &mut Vec<Arc>) -> Result<(), AllocError>
     requires line { line < length question.now.asked.lines }
-    requires before { FirstArcs question.now.asked (tenth_arc question.now.asked line 0) arcs.old.items }
-    ensures { OnOk result (FirstArcs question.now.asked (tenth_arc question.now.asked line 10) arcs.new.items) }
+    requires before { FirstArcs question.now.asked
+        (tenth_arc question.now.asked line 0) arcs.old.items }
+    ensures { OnOk result (FirstArcs question.now.asked
+        (tenth_arc question.now.asked line 10) arcs.new.items) }
 {
     for tenth in 0..10 {
         arcs.push(line_arc(question, line, tenth))?;
@@ -146,7 +149,8 @@ fn add_line(question: &Question, line: usize, arcs: &mut Vec<Arc>) -> Result<(),
 
 /// All arcs of a question's network.
 pub(crate) fn arcs_of(alloc: Global, question: &Question) -> Result<Vec<Arc>, AllocError>
-    ensures { IfOk result (λ arcs. FirstArcs question.now.asked (arc_count question.now.asked) arcs.items) }
+    ensures { IfOk result
+        (λ arcs. FirstArcs question.now.asked (arc_count question.now.asked) arcs.items) }
 {
     let mut arcs = element_arcs(alloc, question)?;
     for line in 0..question.line_count() {

@@ -91,8 +91,10 @@ fn add_line(
 ) -> Result<(), AllocError>
     requires shape { length schedule.now ≡ length question.now.asked.lines }
     requires line { line < length question.now.asked.lines }
-    requires before { FirstFlows question.now.asked schedule.now (tenth_arc question.now.asked line 0) amounts.old.items }
-    ensures { OnOk result (FirstFlows question.now.asked schedule.now (tenth_arc question.now.asked line 10) amounts.new.items) }
+    requires before { FirstFlows question.now.asked schedule.now
+        (tenth_arc question.now.asked line 0) amounts.old.items }
+    ensures { OnOk result (FirstFlows question.now.asked schedule.now
+        (tenth_arc question.now.asked line 10) amounts.new.items) }
 {
     let ceiling = question.ceiling(line).get();
     let planned = schedule.quantity(line).get();
@@ -109,7 +111,8 @@ pub(crate) fn flow_of(
     schedule: &Schedule,
 ) -> Result<Flow, AllocError>
     requires { length schedule.now ≡ length question.now.asked.lines }
-    ensures { IfOk result (FirstFlows question.now.asked schedule.now (arc_count question.now.asked)) }
+    ensures { IfOk result (FirstFlows question.now.asked schedule.now
+        (arc_count question.now.asked)) }
 {
     let mut amounts = load_table(alloc, question, schedule)?;
     for line in 0..question.line_count() {
@@ -124,7 +127,8 @@ fn carried_by(flow: &[i64], elements: usize, line: usize) -> u64
     requires line { line < most_lines }
     requires size { elements + (10 * line + 9) < length flow.now }
     requires low { (j : ℕ) → j < 10 → pos 0 ≤ℤ flow_at flow.now (elements + (10 * line + j)) }
-    requires high { (j : ℕ) → j < 10 → flow_at flow.now (elements + (10 * line + j)) ≤ℤ pos most_dekatherms }
+    requires high { (j : ℕ) → j < 10
+        → flow_at flow.now (elements + (10 * line + j)) ≤ℤ pos most_dekatherms }
     ensures { pos result ≡ sum_int 10 (λ j. flow_at flow.now (elements + (10 * line + j))) }
 {
     let mut sum: u64 = 0;
@@ -140,7 +144,8 @@ fn carried(question: &Question, arcs: &[Arc], flow: &[i64], line: usize) -> Dth
     requires network { IsNetwork question.now.asked arcs.now }
     requires size { length flow.now ≡ length arcs.now }
     requires within { IsWithin arcs.now flow.now }
-    ensures { pos result ≡ sum_int 10 (λ j. flow_at flow.now (tenth_arc question.now.asked line j)) }
+    ensures { pos result
+        ≡ sum_int 10 (λ j. flow_at flow.now (tenth_arc question.now.asked line j)) }
 {
     question.known();
     let ceiling = question.ceiling(line);

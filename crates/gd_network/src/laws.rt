@@ -21,7 +21,8 @@ ghost use Rattle.gd_network.specs.Potential.{IsGains, IsStill, ArePrices};
 /// A line's ten arcs together have its ceiling, its floor and its quantity.
 pub fn ten_sums()
     ensures most { (ceiling : ℕ) → sum_nat 10 (λ j. most_part ceiling j) ≡ ceiling }
-    ensures least { (ceiling floor : ℕ) → floor ≤ ceiling → sum_nat 10 (λ j. least_part ceiling floor j) ≡ floor }
+    ensures least { (ceiling floor : ℕ) → floor ≤ ceiling
+        → sum_nat 10 (λ j. least_part ceiling floor j) ≡ floor }
     ensures parts { (ceiling n : ℕ) → sum_nat 10 (λ j. part_of ceiling n j) ≡ n }
 {}
 
@@ -48,7 +49,8 @@ pub fn all_there()
     ensures network { (q : Question) → (n : Net) × IsNetwork q n }
     ensures flow { (q : Question) (schedule : List ℕ) → (flow : List ℤ) × IsFlowOf q schedule flow }
     ensures back { (q : Question) (schedule : List ℕ) (flow : List ℤ)
-        → length schedule ≡ length q.lines → IsFlowOf q schedule flow → IsScheduleOf q flow schedule }
+        → length schedule ≡ length q.lines → IsFlowOf q schedule flow
+        → IsScheduleOf q flow schedule }
     ensures schedule { (q : Question) (n : Net) (flow : List ℤ) → IsNetwork q n → IsWithin n flow
         → (schedule : List ℕ) × IsScheduleOf q flow schedule }
 {}

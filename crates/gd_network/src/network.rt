@@ -61,7 +61,8 @@ impl<'q> Network<'q> {
         ensures asked { IfOk result (λ network. network.question ≡ question.now) }
         ensures arcs { IfOk result (λ network. IsNetwork question.now.asked network.arcs) }
         ensures first { IfOk result
-            (λ network. IsFlowOf question.now.asked (brought question.now.asked.lines []) network.first) }
+            (λ network. IsFlowOf question.now.asked
+            (brought question.now.asked.lines []) network.first) }
     {
         let none = Schedule::of(Vec::new(alloc));
         Network::at(alloc, question, &none)
@@ -78,7 +79,8 @@ impl<'q> Network<'q> {
         ensures asked { IfOk result (λ network. network.question ≡ question.now) }
         ensures arcs { IfOk result (λ network. IsNetwork question.now.asked network.arcs) }
         ensures first { IfOk result
-            (λ network. IsFlowOf question.now.asked (brought question.now.asked.lines schedule.now) network.first) }
+            (λ network. IsFlowOf question.now.asked
+            (brought question.now.asked.lines schedule.now) network.first) }
     {
         question.known();
         let begun = bring(alloc, question, schedule)?;
@@ -203,7 +205,8 @@ impl<'q> Network<'q> {
         ensures within { IfOk result
             (λ flow. IsAllowed self.now.question.asked schedule.now → IsWithin self.now.arcs flow) }
         ensures small { IfOk result (IsFirst self.now.arcs) }
-        ensures back { IfOk result (λ flow. IsScheduleOf self.now.question.asked flow schedule.now) }
+        ensures back { IfOk result
+            (λ flow. IsScheduleOf self.now.question.asked flow schedule.now) }
     {
         self.known();
         schedule.known();

@@ -18,9 +18,12 @@ pub fn elapsed_never_falls()
 
 /// If no cycle takes effect after the gas day's end, and each schedule either keeps the line's floor or is the former one (the cycle was skipped), then the elapsed quantity never exceeds the schedule in effect.
 pub fn elapsed_stays_within_schedule()
-    ensures { (passed : ℕ → ℕ) (day : ℕ) (scheduled : ℕ → ℕ) (class : ℕ) (waived : ℕ → Bool) (ceiling : ℕ → ℕ)
+    ensures { (passed : ℕ → ℕ) (day : ℕ) (scheduled : ℕ → ℕ) (class : ℕ) (waived : ℕ
+        → Bool) (ceiling : ℕ → ℕ)
         → ((c : ℕ) → passed c ≤ day)
-        → ((c : ℕ) → (line_floor (suc c) class (waived (suc c)) (elapsed passed day scheduled (suc c)) (scheduled c) (ceiling (suc c)) ≤ scheduled (suc c)) ⊎ (scheduled (suc c) ≡ scheduled c))
+        → ((c : ℕ) → (line_floor (suc c) class (waived (suc c)) (elapsed passed day scheduled (suc
+        c)) (scheduled c) (ceiling (suc c)) ≤ scheduled (suc c)) ⊎ (scheduled (suc c)
+        ≡ scheduled c))
         → (c : ℕ) → elapsed passed day scheduled (suc c) ≤ scheduled c }
 {}
 

@@ -99,7 +99,8 @@ impl Schedule {
     pub fn totals(&self, question: &Question) -> Option<Totals>
         ensures { MatchOption result
             (length self.now ≢ length question.now.asked.lines)
-            (λ totals. (length self.now ≡ length question.now.asked.lines) × HasTotals question.now.asked self.now totals) }
+            (λ totals. (length self.now ≡ length question.now.asked.lines)
+            × HasTotals question.now.asked self.now totals) }
     {
         if self.len() != question.line_count() {
             return None;

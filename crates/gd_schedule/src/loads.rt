@@ -198,8 +198,11 @@ impl Schedule {
     /// `None` where there is not one quantity for each line, or no such element. It goes over all lines; [`load_table`] gives the loads of all elements at that cost.
     pub fn load(&self, question: &Question, element: Element) -> Option<i64>
         ensures { MatchOption result
-            ((length self.now ≢ length question.now.asked.lines) ⊎ (length question.now.asked.elements ≤ element.0))
-            (λ load. (length self.now ≡ length question.now.asked.lines) × (element.0 < length question.now.asked.elements) × (load ≡ load_of question.now.asked self.now element.0)) }
+            ((length self.now ≢ length question.now.asked.lines) ⊎
+            (length question.now.asked.elements ≤ element.0))
+            (λ load. (length self.now ≡ length question.now.asked.lines)
+            × (element.0 < length question.now.asked.elements)
+            × (load ≡ load_of question.now.asked self.now element.0)) }
     {
         question.known();
         if self.len() != question.line_count() || element.0 >= question.element_count() {

@@ -37,8 +37,11 @@ fn compare_weights(question: &Question, a: &Schedule, b: &Schedule) -> Ordering
 /// `None` where one of the two has not one quantity for each line.
 pub fn compare(question: &Question, a: &Schedule, b: &Schedule) -> Option<Ordering>
     ensures { MatchOption result
-        ((length a.now ≢ length question.now.asked.lines) ⊎ (length b.now ≢ length question.now.asked.lines))
-        (λ order. (length a.now ≡ length question.now.asked.lines) × (length b.now ≡ length question.now.asked.lines) × Compares question.now.asked a.now b.now order) }
+        ((length a.now ≢ length question.now.asked.lines) ⊎
+        (length b.now ≢ length question.now.asked.lines))
+        (λ order. (length a.now ≡ length question.now.asked.lines)
+        × (length b.now ≡ length question.now.asked.lines)
+        × Compares question.now.asked a.now b.now order) }
 {
     if a.len() != question.line_count() || b.len() != question.line_count() {
         return None;

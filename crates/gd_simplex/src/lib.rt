@@ -63,7 +63,8 @@ fn potentials_of(
     question: &Question,
     simplex: &Simplex,
 ) -> Result<Vec<Tariff>, AllocError>
-    ensures { IfOk result (λ potentials. length potentials.items ≡ length question.now.asked.elements + 1) }
+    ensures { IfOk result (λ potentials. length potentials.items
+        ≡ length question.now.asked.elements + 1) }
 {
     question.known();
     let mut potentials = Vec::new(alloc);
@@ -85,8 +86,10 @@ const MORE_PIVOTS: usize = 256;
 /// ceiling. The first attempt could turn in a circle, though it was never seen to. The second begins where the first was
 /// given up; it can't turn in a circle (strongly feasible trees, Cunningham), but many of its pivots carry nothing.
 pub fn propose(alloc: Global, question: &Question, first: &Schedule) -> Result<Proposal, AllocError>
-    ensures lines { IfOk result (λ proposal. length proposal.schedule ≡ length question.now.asked.lines) }
-    ensures nodes { IfOk result (λ proposal. length proposal.potentials.items ≡ length question.now.asked.elements + 1) }
+    ensures lines { IfOk result (λ proposal. length proposal.schedule
+        ≡ length question.now.asked.lines) }
+    ensures nodes { IfOk result (λ proposal. length proposal.potentials.items
+        ≡ length question.now.asked.elements + 1) }
 {
     let mut simplex = start(alloc, question, first)?;
     let mut pivots = 0;

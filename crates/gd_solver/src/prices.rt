@@ -17,10 +17,13 @@ fn fall<C: Cost>(network: &Network<'_>, potentials: &[C], element: usize) -> C
     requires element { element < length network.now.question.asked.elements }
     requires nodes { length potentials.now ≡ length network.now.question.asked.elements + 1 }
     requires small { (node : ℕ) → node < length potentials.now
-        → IsTrue (C.within (pos most_potential) (potential C.scale (map C.meaning potentials.now) node)) }
+        → IsTrue (C.within (pos most_potential) (potential C.scale
+        (map C.meaning potentials.now) node)) }
     ensures is { C.meaning result ≡ less C.scale
-        (potential C.scale (map C.meaning potentials.now) (start network.now.question.asked element))
-        (potential C.scale (map C.meaning potentials.now) (stop network.now.question.asked element)) }
+        (potential C.scale (map C.meaning potentials.now)
+        (start network.now.question.asked element))
+        (potential C.scale (map C.meaning potentials.now)
+        (stop network.now.question.asked element)) }
     ensures small { IsTrue (C.within (pos most_price_word) (C.meaning result)) }
 {
     network.known();
@@ -36,7 +39,8 @@ pub(crate) fn prices_of<C: Cost>(
 ) -> Result<Vec<C>, AllocError>
     requires nodes { length potentials.now ≡ length network.now.question.asked.elements + 1 }
     requires small { (node : ℕ) → node < length potentials.now
-        → IsTrue (C.within (pos most_potential) (potential C.scale (map C.meaning potentials.now) node)) }
+        → IsTrue (C.within (pos most_potential) (potential C.scale
+        (map C.meaning potentials.now) node)) }
     ensures falls { IfOk result (λ prices. ArePrices C.scale network.now.question.asked
         (potential C.scale (map C.meaning potentials.now)) (map C.meaning prices.items)) }
     ensures small { IfOk result

@@ -19,7 +19,8 @@ fn first_day(rows: &[Row]) -> Option<(CivilDate, &ZoneText)>
 
 /// The date and the zone of a text's gas day; `Missing` where it has none, at one row past the last.
 pub fn day_of(rows: &[Row]) -> Result<(CivilDate, &ZoneText), TextFault>
-    ensures { MatchResult result (λ d. spec.day_of rows.now ≡ Ok (d.0, d.1.now)) (λ e. spec.day_of rows.now ≡ Err e) }
+    ensures { MatchResult result (λ d. spec.day_of rows.now
+        ≡ Ok (d.0, d.1.now)) (λ e. spec.day_of rows.now ≡ Err e) }
 {
     match first_day(rows) {
         Some(day) => Ok(day),

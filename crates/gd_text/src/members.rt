@@ -24,7 +24,11 @@ impl Model for MemberTable {
 
     ghost Value = { Members };
 
-    ghost view = { λ t. record { places = t.places.items; points = t.points.items; pools = t.pools.items } };
+    ghost view = { λ t. record {
+      places = t.places.items;
+      points = t.points.items;
+      pools = t.pools.items;
+    } };
 }
 
 fn unknown(row: u64) -> TextFault
@@ -54,7 +58,8 @@ impl MemberTable {
         name: Name,
     ) -> Result<(), TextFault>
         requires { spec.IsFor system.now self.old }
-        ensures taken { Becomes self.new result (spec.with_member number system.now self.old member name) }
+        ensures taken { Becomes self.new result
+            (spec.with_member number system.now self.old member name) }
         ensures shaped { OnOk result (spec.IsFor system.now self.new) }
     {
         system.known();
@@ -110,7 +115,8 @@ fn add_member(
     row: &Row,
 ) -> Result<(), TextFault>
     requires { spec.IsFor system.now table.old }
-    ensures taken { Becomes table.new result (spec.member_step system.now number table.old row.now) }
+    ensures taken { Becomes table.new result
+        (spec.member_step system.now number table.old row.now) }
     ensures shaped { OnOk result (spec.IsFor system.now table.new) }
 {
     match *row {

@@ -33,9 +33,15 @@ impl Model for PriceTable {
 
     ghost Value = { Table };
 
-    ghost view = { λ t. record { elements = t.elements; words = t.words.items; spreads = t.spreads.items; given = t.given.items } };
+    ghost view = { λ t. record {
+      elements = t.elements;
+      words = t.words.items;
+      spreads = t.spreads.items;
+      given = t.given.items;
+    } };
 
-    ghost invariant = { λ t. (length t.words.items ≡ classes * t.elements) × (length t.spreads.items ≡ classes * t.elements)
+    ghost invariant = { λ t. (length t.words.items ≡ classes * t.elements)
+        × (length t.spreads.items ≡ classes * t.elements)
         × (length t.given.items ≡ classes * t.elements) × (t.elements ≤ most_elements) };
 }
 
@@ -94,7 +100,8 @@ impl PriceTable {
         spread: i64,
     ) -> Result<(), TextFault>
         requires { element.0 < self.old.elements }
-        ensures given { Becomes self.new result (spec.given_at number self.old element.0 class word spread) }
+        ensures given { Becomes self.new result
+            (spec.given_at number self.old element.0 class word spread) }
         ensures sized { self.new.elements ≡ self.old.elements }
     {
         let given = &self.given;

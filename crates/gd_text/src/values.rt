@@ -106,7 +106,8 @@ fn set_capacity(
     capacity: Dth,
 ) -> Result<(), TextFault>
     ensures { Becomes builder.new result
-        (spec.capacity_at number builder.old (element_number builder.old.pipeline element) capacity) }
+        (spec.capacity_at number builder.old
+        (element_number builder.old.pipeline element) capacity) }
 {
     let Some(element) = builder.system().element(element) else {
         return Err(TextFault::at(number, Cause::UnknownElement));

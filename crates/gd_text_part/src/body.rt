@@ -187,7 +187,8 @@ fn book_at(needed: bool, row: &ByteRecord, k: usize) -> Result<Option<Name>, Cau
 /// The fields of a `day` row, with the zone's text as it stands in the record.
 #[tactic(auto, unfolding(crate::specs::Rows::day_row))]
 fn day_fields(needed: bool, row: &ByteRecord) -> Result<(CivilDate, &str, Option<Name>), Cause>
-    ensures { MatchResult result (λ d. spec.day_row needed (fields_of row.now) ≡ Ok (rows.Day d.0 d.1.now d.2))
+    ensures { MatchResult result (λ d. spec.day_row needed (fields_of row.now)
+        ≡ Ok (rows.Day d.0 d.1.now d.2))
         (λ c. spec.day_row needed (fields_of row.now) ≡ Err c) }
 {
     let date = date_at(row, 2)?;

@@ -21,7 +21,8 @@ fn append(text: &mut Vec<u8>, block: &[u8]) -> Result<(), TextFault>
     requires { length text.old.items ≤ MAX_BYTES }
     ensures all { OnOk result (text.new.items ≡ text.old.items ++ block.now) }
     ensures few { OnOk result (length text.new.items ≤ MAX_BYTES) }
-    ensures fault { IfErr result (BlamesNoRow (MAX_BYTES < length text.old.items + length block.now)) }
+    ensures fault { IfErr result (BlamesNoRow (MAX_BYTES < length text.old.items
+        + length block.now)) }
 {
     if MAX_BYTES - text.len() < block.len() {
         return Err(TextFault::TooLong);
@@ -37,7 +38,8 @@ fn append(text: &mut Vec<u8>, block: &[u8]) -> Result<(), TextFault>
 /// `ReadFailed` where a read fails, `TooLong` where there are more bytes than a text may have or they take too many reads, and
 /// `OutOfMemory`. At each of them some of the bytes were read, and which is left open.
 pub fn read_bytes<R: Read>(alloc: Global, reader: &mut R) -> Result<Vec<u8>, TextFault>
-    ensures bytes { IfOk result (λ text. IfSome (R.remaining reader.old) (λ all. text.items ≡ all)) }
+    ensures bytes { IfOk result (λ text. IfSome (R.remaining reader.old) (λ all. text.items
+        ≡ all)) }
     ensures few { IfOk result (λ text. length text.items ≤ MAX_BYTES) }
     ensures fault { IfErr result (BlamesNoRow (IfSome (R.remaining reader.old) HasManyBytes)) }
 {

@@ -43,7 +43,8 @@ impl<'t> Records<'t> {
     pub(crate) fn advance(&mut self) -> Result<bool, TextFault>
         requires { IsReading self.old }
         ensures takes { IfOk result (λ found. Takes self.old self.new found) }
-        ensures fault { IfErr result (BlamesLength (MAX_ROWS < self.old.taken + length (records_left self.old))) }
+        ensures fault { IfErr result (BlamesLength (MAX_ROWS < self.old.taken
+            + length (records_left self.old))) }
     {
         match self.reader.read_byte_record(&mut self.current) {
             Ok(true) if self.taken == MAX_ROWS => Err(TextFault::TooLong),
@@ -64,7 +65,8 @@ impl<'t> Records<'t> {
     pub(crate) fn skip_rest(&mut self) -> Result<(), TextFault>
         requires { IsReading self.old }
         ensures few { OnOk result (self.old.taken + length (records_left self.old) ≤ MAX_ROWS) }
-        ensures fault { IfErr result (BlamesLength (MAX_ROWS < self.old.taken + length (records_left self.old))) }
+        ensures fault { IfErr result (BlamesLength (MAX_ROWS < self.old.taken
+            + length (records_left self.old))) }
     {
         'rest: loop {
             if !self.advance()? {

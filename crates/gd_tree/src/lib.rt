@@ -22,8 +22,10 @@ pub fn grown_is_tree()
 /// There is a route exactly where the walk between the two places goes along each segment's direction, and it is that walk's.
 pub fn routes_are_walks()
     ensures { (elements : List Element) (n from to : ℕ) → IsGrown n elements → from ≤ n → to ≤ n
-        → (has_route elements n from to ≡ true → IsRoute elements from (route_of elements n from to) to)
-        × ((route : List ℕ) → IsRoute elements from route to → (has_route elements n from to ≡ true) × (route ≡ route_of elements n from to)) }
+        → (has_route elements n from to ≡ true
+        → IsRoute elements from (route_of elements n from to) to)
+        × ((route : List ℕ) → IsRoute elements from route to
+        → (has_route elements n from to ≡ true) × (route ≡ route_of elements n from to)) }
 {}
 
 /// A route has at most as many segments as there are.

@@ -68,7 +68,8 @@ pub fn least_room(network: &Network<'_>, flow: &[i64], walk: &[Step], most: i64)
     requires steps { AreSteps network.now.arcs walk.now }
     ensures least { result ≡ least_room network.now.arcs flow.now walk.now most }
     ensures rooms { HasRooms network.now.arcs flow.now walk.now result }
-    ensures some { pos 0 <ℤ most → HasRooms network.now.arcs flow.now walk.now (pos 1) → pos 0 <ℤ result }
+    ensures some { pos 0 <ℤ most → HasRooms network.now.arcs flow.now walk.now (pos 1)
+        → pos 0 <ℤ result }
 {
     let mut least = most;
     for step in walk {
