@@ -69,10 +69,7 @@ impl ByClass for Pair<Lex<8>, Lex<8>> {
     } };
 
     ghost at = { λ class tenth. record {
-      first = record {
-        words = listed 8 (at_class class
-            (pos 1));
-      };
+      first = record { words = listed 8 (at_class class (pos 1)) };
       second = record { words = listed 8 (at_class class (neg_ℤ (pos tenth))) };
     } };
 
