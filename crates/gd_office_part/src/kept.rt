@@ -1,10 +1,14 @@
 //! A book as it stands under its lock. Receipts are made here alone, one by each step.
 
-ghost use Rattle.std.specs.Prelude.{◌≡◌, ◌+◌, ◌-◌, ◌*◌, ◌^◌, ◌<◌, ◌≤◌, ◌↔◌, true, false, length as len_of, sum_by, IsTrue, IfOk, IfErr, OnErr, OnOk};
+ghost use Rattle.std.specs.Prelude.{◌≡◌, ◌+◌, ◌-◌, ◌*◌, ◌^◌, ◌<◌, ◌≤◌, ◌↔◌, true, false, length as len_of, sum_by, Option, Err, IsTrue, IfOk, IfErr, OnErr, OnOk};
 ghost use Rattle.std.specs.Option.{MatchOption};
 ghost use Rattle.gd_board.specs.Known.{known_of};
+ghost use Rattle.gd_board.specs.declared.posting.Posting.{Posting as APosting};
 ghost use Rattle.gd_machine.specs.declared.event.Event.TheVariants as event;
-ghost use Rattle.gd_machine.specs.History.{cycle_of, is_frozen};
+ghost use Rattle.gd_machine.specs.declared.event.Event.{Event as AnEvent};
+ghost use Rattle.gd_machine.specs.declared.refusal.Refusal.TheVariants as refusal;
+ghost use Rattle.gd_machine.specs.Day.{Day};
+ghost use Rattle.gd_machine.specs.History.{History, cycle_of, is_frozen};
 ghost use Rattle.gd_machine.specs.Asked.{question};
 ghost use Rattle.gd_machine.specs.Machine.{Step};
 ghost use Rattle.gd_book.specs.Posted.{Posts};
@@ -86,6 +90,7 @@ fn make_call(
     requires { note.old.cells ≡ board.now }
     ensures step { Step book.old.day book.old.history event result book.new.history }
     ensures day { book.new.day ≡ book.old.day }
+    ensures err { OnErr result (book.new ≡ book.old) }
     ensures board { note.new.cells ≡ note.old.cells }
     ensures posted { OnOk result (Posts book.old.day book.old.history
         (known_of note.new (cycle_of book.old.history)) event) }
@@ -117,6 +122,25 @@ fn make_call(
         Event::Declare { moment, round, cut } => book.declare(moment, round, cut),
         Event::Waive { moment, line } => book.waive(moment, line),
         Event::Skip { moment } => book.skip(moment),
+    }
+}
+
+/// What is told of an answer to an event, before which the history had so many events. The only error is want of memory,
+/// which is then what was answered.
+fn told_of(length: u64, answer: Result<Reply, Refusal>) -> Result<Told, AllocError>
+    requires { length < 2 ^ 63 }
+    ensures tells { (day : Day) (before : History) (event : AnEvent) (after : History)
+        → length ≡ len_of before → Step day before event answer after
+        → IfOk result (λ told. Tells day before event told after) }
+    ensures posts { (day : Day) (before : History) (known : Option APosting) (event : AnEvent)
+        → OnOk answer (Posts day before known event)
+        → IfOk result (λ told. PostsWhere day before known event told) }
+    ensures err { OnErr result (answer ≡ Err refusal.OutOfMemory) }
+{
+    match answer {
+        Ok(reply) => Ok(Told::Accepted(length + 1, reply)),
+        Err(Refusal::OutOfMemory) => Err(AllocError),
+        Err(refusal) => Ok(Told::Refused(length, refusal)),
     }
 }
 
@@ -194,8 +218,10 @@ impl Kept {
     ///
     /// `TooMany` where 1,024 are open already. Nothing is changed then.
     pub fn count_session(&mut self) -> Result<(), OfficeFault>
-        ensures ok { OnOk result (self.new ≡ record self.old { live = self.old.live + 1 }) }
+        ensures ok { OnOk result (self.new.live ≡ self.old.live + 1) }
         ensures err { IfErr result (λ why. (why ≡ fault.TooMany) × (self.old.live ≡ 1024) × (self.new ≡ self.old)) }
+        ensures kept { (self.new.slot ≡ self.old.slot) × (self.new.book ≡ self.old.book)
+            × (self.new.before ≡ self.old.before) × (self.new.closed ≡ self.old.closed) }
     {
         if self.live >= MAX_SESSIONS {
             return Err(OfficeFault::TooMany);
@@ -271,19 +297,18 @@ impl Kept {
         ensures asked { IfOk result (λ receipt. (receipt.slot ≡ self.old.slot) × (receipt.event ≡ event)) }
         ensures told { IfOk result (λ receipt. Tells self.old.book.day self.old.book.history event
             receipt.told self.new.book.history) }
-        ensures err { OnErr result (self.new ≡ self.old) }
-        ensures kept { self.new ≡ record self.old { book = record self.old.book { history = self.new.book.history } } }
+        ensures err { OnErr result (self.new.book ≡ self.old.book) }
+        ensures kept { (self.new.slot ≡ self.old.slot) × (self.new.live ≡ self.old.live)
+            × (self.new.before ≡ self.old.before) × (self.new.closed ≡ self.old.closed) }
+        ensures day { self.new.book.day ≡ self.old.book.day }
         ensures board { note.new.cells ≡ note.old.cells }
         ensures posted { IfOk result (λ receipt. PostsWhere self.old.book.day self.old.book.history
             (known_of note.new (cycle_of self.old.book.history)) event receipt.told) }
     {
         let mine = event.try_clone(self.alloc)?;
         let length = self.book.history().len() as u64;
-        let told = match make_call(&mut self.book, event, board, note) {
-            Ok(reply) => Told::Accepted(length + 1, reply),
-            Err(Refusal::OutOfMemory) => return Err(AllocError),
-            Err(refusal) => Told::Refused(length, refusal),
-        };
+        let answer = make_call(&mut self.book, event, board, note);
+        let told = told_of(length, answer)?;
         Ok(Receipt {
             slot: self.slot,
             event: mine,
@@ -312,7 +337,9 @@ impl Kept {
             (λ asked. (is_frozen self.new.book.history ≡ true)
             × (asked ≡ question self.new.book.day self.new.book.history))) }
         ensures err { OnErr result (IsFrozenAtMost self.old.book.day self.old.book.history moment self.new.book.history) }
-        ensures kept { self.new ≡ record self.old { book = record self.old.book { history = self.new.book.history } } }
+        ensures kept { (self.new.slot ≡ self.old.slot) × (self.new.live ≡ self.old.live)
+            × (self.new.before ≡ self.old.before) × (self.new.closed ≡ self.old.closed) }
+        ensures day { self.new.book.day ≡ self.old.book.day }
         ensures board { note.new.cells ≡ note.old.cells }
     {
         let froze = self.step_in(Event::Freeze { moment }, board, note)?;
