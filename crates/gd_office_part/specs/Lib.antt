@@ -3,3 +3,4 @@ pub mod Calls
 pub mod Counting
 pub mod Closing
 pub mod Names
+pub mod Sums

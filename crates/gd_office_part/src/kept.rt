@@ -1,6 +1,6 @@
 //! A book as it stands under its lock. Receipts are made here alone, one by each step.
 
-ghost use Rattle.std.specs.Prelude.{◌≡◌, ◌+◌, ◌-◌, ◌*◌, ◌^◌, ◌<◌, ◌≤◌, ◌↔◌, true, false, length as len_of, sum_by, Option, Err, IsTrue, IfOk, IfErr, OnErr, OnOk};
+ghost use Rattle.std.specs.Prelude.{◌≡◌, ◌+◌, ◌-◌, ◌^◌, ◌<◌, ◌≤◌, true, false, length as len_of, Option, Err, IfOk, IfErr, OnErr, OnOk};
 ghost use Rattle.std.specs.Option.{MatchOption};
 ghost use Rattle.gd_board.specs.Known.{known_of};
 ghost use Rattle.gd_board.specs.declared.posting.Posting.{Posting as APosting};
@@ -12,12 +12,14 @@ ghost use Rattle.gd_machine.specs.History.{History, cycle_of, is_frozen};
 ghost use Rattle.gd_machine.specs.Asked.{question};
 ghost use Rattle.gd_machine.specs.Machine.{Step};
 ghost use Rattle.gd_book.specs.Posted.{Posts};
+ghost use Rattle.gd_office_part.specs.declared.kept.TheConstants.{MAX_SESSIONS};
 ghost use Rattle.gd_office_part.specs.declared.session.OfficeFault.TheVariants as fault;
 ghost use Rattle.gd_office_part.specs.Told.{Tells, PostsWhere, IsFrozenAtMost};
 ghost use Rattle.gd_office_part.specs.Counting.{none, plus, numbers_of};
 
 use crate::numbers::Numbers;
 use crate::session::{OfficeFault, Session};
+use crate::sums::Sums;
 use gd_board::{Board, BoardNote};
 use gd_book::{Book, Event, Refusal, Reply};
 use gd_question::Question;
@@ -77,7 +79,7 @@ pub struct Kept {
     live: u32,
     before: Numbers,
     closed: Numbers,
-    ghost few: { live ≤ 1024 },
+    ghost few: { live ≤ MAX_SESSIONS },
 }
 
 /// Makes the book's own call for an event.
@@ -144,46 +146,6 @@ fn told_of(length: u64, answer: Result<Reply, Refusal>) -> Result<Told, AllocErr
     }
 }
 
-/// What sessions counted together: of so few that the sums fit.
-#[derive(Clone, Copy)]
-struct Sums {
-    calls: u128,
-    nominations: u128,
-    dekatherms: u128,
-}
-
-fn sums_of(sessions: &[Session<'_>]) -> Sums
-    requires { len_of sessions.now ≤ 1024 }
-    ensures calls { result.calls ≡ sum_by (λ s. s.numbers.calls) sessions.now }
-    ensures nominations { result.nominations ≡ sum_by (λ s. s.numbers.nominations) sessions.now }
-    ensures dekatherms { result.dekatherms ≡ sum_by (λ s. s.numbers.dekatherms) sessions.now }
-    ensures small { (result.calls ≤ 2 ^ 64 * 1024) × (result.nominations ≤ 2 ^ 64 * 1024)
-        × (result.dekatherms ≤ 2 ^ 64 * 1024) }
-{
-    let mut calls = 0u128;
-    let mut nominations = 0u128;
-    let mut dekatherms = 0u128;
-    for session in sessions {
-        let numbers = session.numbers();
-        calls += u128::from(numbers.calls);
-        nominations += u128::from(numbers.nominations);
-        dekatherms += u128::from(numbers.dekatherms);
-    }
-    Sums {
-        calls,
-        nominations,
-        dekatherms,
-    }
-}
-
-/// Whether what was counted before, by closed sessions and by these makes what there is now.
-fn makes(before: u64, closed: u64, sum: u128, now: u64) -> bool
-    requires { sum ≤ 2 ^ 64 * 1024 }
-    ensures { IsTrue result ↔ (before + (closed + sum) ≡ now) }
-{
-    u128::from(before) + (u128::from(closed) + sum) == u128::from(now)
-}
-
 impl Kept {
     ghost use Rattle.gd_office_part.specs.Closing.{Closes, total_of};
 
@@ -219,7 +181,7 @@ impl Kept {
     /// `TooMany` where 1,024 are open already. Nothing is changed then.
     pub fn count_session(&mut self) -> Result<(), OfficeFault>
         ensures ok { OnOk result (self.new.live ≡ self.old.live + 1) }
-        ensures err { IfErr result (λ why. (why ≡ fault.TooMany) × (self.old.live ≡ 1024) × (self.new ≡ self.old)) }
+        ensures err { IfErr result (λ why. (why ≡ fault.TooMany) × (self.old.live ≡ MAX_SESSIONS) × (self.new ≡ self.old)) }
         ensures kept { (self.new.slot ≡ self.old.slot) × (self.new.book ≡ self.old.book)
             × (self.new.before ≡ self.old.before) × (self.new.closed ≡ self.old.closed) }
     {
@@ -251,25 +213,9 @@ impl Kept {
         if sessions.len() != self.live as usize {
             return Err(missing);
         }
-        let sums = sums_of(sessions);
-        let (nominations, dekatherms) = self.book.accepted();
-        let (before, closed) = (self.before, self.closed);
-        if !makes(
-            before.calls,
-            closed.calls,
-            sums.calls,
-            self.book.session_calls(),
-        ) || !makes(
-            before.nominations,
-            closed.nominations,
-            sums.nominations,
-            nominations,
-        ) || !makes(
-            before.dekatherms,
-            closed.dekatherms,
-            sums.dekatherms,
-            dekatherms,
-        ) {
+        let sums = Sums::of(sessions);
+        let (closed, now) = (self.closed, Numbers::of_book(&self.book));
+        if !sums.add_up(self.before, closed, now) {
             return Err(missing);
         }
         self.closed = Numbers {

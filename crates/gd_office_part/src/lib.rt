@@ -11,6 +11,7 @@ mod call;
 mod kept;
 mod numbers;
 mod session;
+mod sums;
 
 pub use call::Call;
 pub use kept::{Kept, MAX_SESSIONS, Receipt, Told};
