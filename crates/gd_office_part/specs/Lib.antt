@@ -1,0 +1,6 @@
+pub mod Told
+pub mod Calls
+pub mod Counting
+pub mod Closing
+pub mod Names
+pub mod Sums

@@ -1,0 +1,4 @@
+pub mod Walks
+pub mod Queries
+pub mod Misfits
+pub mod Rows
