@@ -1,5 +1,5 @@
 -- What is counted of accepted events.
-use Rattle.std.specs.Prelude.{ℕ, ◌+◌, List, fold}
+use Rattle.std.specs.Prelude.{◌+◌, List, fold}
 use Rattle.gd_machine.specs.declared.event.Event.{Event}
 use Rattle.gd_machine.specs.declared.event.Event.TheVariants.{Nominate, Respond, PostCapacity}
 use Rattle.gd_machine.specs.History.{session_calls}

@@ -1,4 +1,4 @@
-use Rattle.std.proofs.Common.{◌≡◌, ◌++◌, length, map, take, drop}
+use Rattle.std.proofs.Common.{◌≡◌, map, take}
 use Rattle.gd_office_part.specs.Sending.{kept_of}
 use Rattle.gd_office_part.proofs.threads.count_all.Given as goal
 

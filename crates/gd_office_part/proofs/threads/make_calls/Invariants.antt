@@ -1,4 +1,4 @@
-use Rattle.std.proofs.Common.{◌≡◌, map, take}
+use Rattle.std.proofs.Common.{◌≡◌, take}
 use Rattle.gd_office_part.specs.Counting.{counted_all}
 use Rattle.gd_office_part.specs.Sending.{events_of, events_by}
 use Rattle.gd_office_part.proofs.threads.make_calls.Given as goal

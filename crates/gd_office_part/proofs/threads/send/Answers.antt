@@ -1,6 +1,4 @@
-use Rattle.std.proofs.Common.{◌≡◌, ◌∙◌, ap, length}
-use Rattle.gd_office_part.specs.declared.numbers.Numbers.{Numbers}
-use Rattle.std.proofs.Common.{List}
+use Rattle.std.proofs.Common.{◌∙◌}
 use Rattle.gd_office_part.proofs.Asking.{numbers-fit, are_sent, are_counted}
 use Rattle.gd_office_part.proofs.threads.send.Goals as goal
 

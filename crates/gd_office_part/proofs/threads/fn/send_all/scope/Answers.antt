@@ -1,4 +1,4 @@
-use Rattle.std.proofs.Common.{◌≡◌, ◌∙◌, ap}
+use Rattle.std.proofs.Common.{◌∙◌, ap}
 use Rattle.std.specs.Global.{Vec}
 use Rattle.gd_office_part.specs.declared.call.Call.{Call}
 use Rattle.gd_office_part.specs.declared.threads.SentOf.{SentOf}
