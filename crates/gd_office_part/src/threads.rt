@@ -1,6 +1,7 @@
 //! The calls of sessions, each session in a thread of its own.
 
 ghost use Rattle.std.specs.Prelude.{◌≡◌, ◌↔◌, [], ◌∷◌, ◌++◌, length as len_of, map, IsTrue, IfOk, OnOk, OnErr};
+ghost use Rattle.std.specs.List.{AllZip};
 ghost use Rattle.gd_office_part.specs.Sending as spec;
 
 use crate::call::Call;
@@ -205,6 +206,19 @@ fn is_of_slot(slots: &[Slot], session: &Session<'_>, rows: &SessionRows) -> bool
     }
 }
 
+/// Whether the slots at the places of these rows are the sessions'.
+fn are_of_slots(slots: &[Slot], sessions: &[Session<'_>], rows: &[SessionRows]) -> bool
+    requires { len_of sessions.now ≡ len_of rows.now }
+    ensures { IsTrue result ↔ AllZip (spec.IsOfSlot slots.now) sessions.now rows.now }
+{
+    for at in 0..rows.len() {
+        if !is_of_slot(slots, &sessions[at], &rows[at]) {
+            return false;
+        }
+    }
+    true
+}
+
 /// Makes the calls of each session in their order, each session in a thread of its own, and waits for all. Each session
 /// counts what its receipts tell. It waits for the locks of the slots.
 ///
@@ -220,15 +234,14 @@ pub fn send<R: Threads + Wait + Sync>(
     rows: &[SessionRows],
 ) -> Result<Vec<Vec<Receipt>>, SendFault>
     requires { len_of sessions.old ≡ len_of rows.now }
+    ensures slots { OnOk result (AllZip (spec.IsOfSlot slots.now) sessions.old rows.now) }
     ensures sent { IfOk result (λ lists. spec.AreSent sessions.old rows.now (spec.lists_of lists.items)) }
     ensures counted { IfOk result (λ lists. spec.AreCounted sessions.old (spec.lists_of lists.items) sessions.new) }
     ensures kept { map spec.kept_of sessions.new ≡ map spec.kept_of sessions.old }
     ensures err { OnErr result (sessions.new ≡ sessions.old) }
 {
-    for at in 0..rows.len() {
-        if !is_of_slot(slots, &sessions[at], &rows[at]) {
-            return Err(SendFault::OtherSlot);
-        }
+    if !are_of_slots(slots, sessions, rows) {
+        return Err(SendFault::OtherSlot);
     }
     let starts = starts_of(alloc, sessions)?;
     let all = send_all(rt, alloc, slots, starts.as_slice(), rows)?;
