@@ -1,11 +1,12 @@
 -- What is counted of accepted events.
-use Rattle.std.specs.Prelude.{ℕ, ◌+◌}
+use Rattle.std.specs.Prelude.{◌+◌, List, fold}
 use Rattle.gd_machine.specs.declared.event.Event.{Event}
 use Rattle.gd_machine.specs.declared.event.Event.TheVariants.{Nominate, Respond, PostCapacity}
 use Rattle.gd_machine.specs.History.{session_calls}
 use Rattle.gd_machine.specs.Asked.{accepted}
 use Rattle.gd_book.specs.Kept.{Kept}
 use Rattle.gd_office_part.specs.declared.numbers.Numbers.{Numbers}
+use Rattle.gd_office_part.specs.declared.kept.Receipt.{Receipt}
 use Rattle.gd_office_part.specs.declared.kept.Told.{Told}
 use Rattle.gd_office_part.specs.declared.kept.Told.TheVariants.{Accepted, Refused}
 
@@ -34,3 +35,6 @@ worth_of event = none
 abbrev pub counted : Numbers → Event → Told → Numbers
 counted numbers event (Accepted number reply) = plus numbers (worth_of event)
 counted numbers event (Refused len refusal) = numbers
+
+abbrev pub counted_all : Numbers → List Receipt → Numbers
+counted_all numbers receipts = fold (λ n r. counted n r.event r.told) numbers receipts

@@ -4,3 +4,4 @@ pub mod Counting
 pub mod Closing
 pub mod Names
 pub mod Sums
+pub mod Sending

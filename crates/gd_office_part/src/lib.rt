@@ -10,10 +10,13 @@
 mod call;
 mod kept;
 mod numbers;
+mod sent;
 mod session;
 mod sums;
+mod threads;
 
 pub use call::Call;
 pub use kept::{Kept, MAX_SESSIONS, Receipt, Told};
 pub use numbers::Numbers;
 pub use session::{OfficeFault, Session, Slot};
+pub use threads::{SendFault, SessionRows, send};

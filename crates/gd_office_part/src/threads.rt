@@ -1,0 +1,251 @@
+//! The calls of sessions, each session in a thread of its own.
+
+ghost use Rattle.std.specs.Prelude.{◌≡◌, ◌↔◌, [], ◌∷◌, ◌++◌, length as len_of, map, IsTrue, IfOk, OnOk, OnErr};
+ghost use Rattle.std.specs.List.{AllZip};
+ghost use Rattle.gd_office_part.specs.Sending as spec;
+
+use crate::call::Call;
+use crate::kept::Receipt;
+use crate::numbers::Numbers;
+use crate::sent::Sent;
+use crate::session::{Session, Slot, call_by};
+use gd_units::Name;
+use std::alloc::{AllocError, Global};
+use std::snapshot::Snapshot;
+use std::sync::Wait;
+use std::thread;
+use std::thread::{Promise, PromisedHandle, Threads};
+
+/// The calls of one session in their order, and the place of its slot among the slots, from 0.
+#[derive(Drop)]
+pub struct SessionRows {
+    pub slot: usize,
+    pub calls: Vec<Call>,
+}
+
+/// Why the calls of sessions were not all made.
+#[derive(Clone, Copy, Debug, PartialEq, Eq, Drop)]
+pub enum SendFault {
+    /// At the place of a slot there is none, or one that is not its session's.
+    OtherSlot,
+    /// A thread could not be started.
+    NoThread,
+    /// Memory was refused.
+    OutOfMemory,
+}
+
+impl From<AllocError> for SendFault {
+    fn from(_e: AllocError) -> SendFault {
+        SendFault::OutOfMemory
+    }
+}
+
+/// What a thread is told of its session: who calls, and what was counted before.
+#[derive(Clone, Copy)]
+struct Start {
+    party: Name,
+    numbers: Numbers,
+}
+
+/// What a thread promises: a receipt of each of these calls.
+#[derive(Drop)]
+struct SentOf {
+    party: Name,
+    start: Numbers,
+    calls: Snapshot<Vec<Call>>,
+}
+
+impl Promise<Result<Sent, AllocError>> for SentOf {
+    ghost kept_by = { λ p r. IfOk r (λ sent. spec.sent_as sent ≡ spec.asked p.party p.start p.calls.value.items) };
+}
+
+/// Makes the calls of one session in their order.
+fn make_calls<R: Wait>(
+    rt: &R,
+    alloc: Global,
+    slot: &Slot,
+    start: &Start,
+    calls: &[Call],
+) -> Result<Sent, AllocError>
+    ensures { IfOk result (λ sent. spec.sent_as sent ≡ spec.asked start.now.party start.now.numbers calls.now) }
+{
+    let mut receipts = Vec::new(alloc);
+    let mut numbers = start.numbers;
+    for call in calls {
+        let (receipt, next) = call_by(rt, slot, numbers, start.party, *call)?;
+        receipts.push(receipt)?;
+        numbers = next;
+    }
+    Ok(Sent::of(start.numbers, receipts, numbers))
+}
+
+/// Adds an item, where there is memory for it.
+fn keep<T: Drop>(items: &mut Vec<T>, item: T) -> Result<(), AllocError>
+    ensures { OnOk result (items.new.items ≡ items.old.items ++ item ∷ []) }
+{
+    items.push(item)?;
+    Ok(())
+}
+
+/// What all threads hand back, in the order of the sessions.
+fn join_all<R: Threads>(
+    rt: &R,
+    alloc: Global,
+    starts: &[Start],
+    rows: &[SessionRows],
+    children: Vec<PromisedHandle<Result<Sent, AllocError>, SentOf>>,
+) -> Result<Vec<Sent>, SendFault>
+    requires { map (λ h. spec.asked h.promise.party h.promise.start h.promise.calls.value.items) children.items
+        ≡ spec.asked_all starts.now rows.now }
+    ensures { IfOk result (λ all. map spec.sent_as all.items ≡ spec.asked_all starts.now rows.now) }
+{
+    let _ = starts;
+    let _ = rows;
+    let mut all = Vec::with_capacity(alloc, children.len())?;
+    for child in children {
+        let sent = child.join(rt)?;
+        keep(&mut all, sent)?;
+    }
+    Ok(all)
+}
+
+/// Makes the calls of all sessions, each session in its own thread, and waits for all.
+fn send_all<R: Threads + Wait + Sync>(
+    rt: &R,
+    alloc: Global,
+    slots: &[Slot],
+    starts: &[Start],
+    rows: &[SessionRows],
+) -> Result<Vec<Sent>, SendFault>
+    requires { len_of starts.now ≡ len_of rows.now }
+    ensures { IfOk result (λ all. map spec.sent_as all.items ≡ spec.asked_all starts.now rows.now) }
+{
+    thread::scope(
+        thread::scope_env(),
+        rt,
+        |scope| -> Result<Vec<Sent>, SendFault>
+            requires { len_of starts.now ≡ len_of rows.now }
+            ensures { IfOk result (λ all. map spec.sent_as all.items ≡ spec.asked_all starts.entry.now rows.entry.now) }
+        {
+            let mut children = Vec::with_capacity(alloc, rows.len())?;
+            for at in 0..rows.len() {
+                let row = &rows[at];
+                let start = &starts[at];
+                let Some(slot) = slots.get(row.slot) else {
+                    return Err(SendFault::OtherSlot);
+                };
+                let promise = SentOf {
+                    party: start.party,
+                    start: start.numbers,
+                    calls: Snapshot::of(&row.calls),
+                };
+                let calls = row.calls.as_slice();
+                let Ok(child) = scope.spawn_with(
+                    promise,
+                    move || make_calls(rt, alloc, slot, start, calls),
+                ) else {
+                    return Err(SendFault::NoThread);
+                };
+                keep(&mut children, child)?;
+            }
+            join_all(rt, alloc, starts, rows, children)
+        },
+    )
+}
+
+/// What the threads are told of these sessions.
+fn starts_of(alloc: Global, sessions: &[Session<'_>]) -> Result<Vec<Start>, AllocError>
+    ensures { IfOk result (λ starts. starts.items ≡ map spec.start_of sessions.now) }
+{
+    let mut starts = Vec::with_capacity(alloc, sessions.len())?;
+    for session in sessions {
+        starts.push(Start {
+            party: session.party(),
+            numbers: session.numbers(),
+        })?;
+    }
+    Ok(starts)
+}
+
+/// The numbers that were counted last, and the lists of receipts.
+fn taken_apart(
+    alloc: Global,
+    all: Vec<Sent>,
+) -> Result<(Vec<Numbers>, Vec<Vec<Receipt>>), AllocError>
+    ensures numbers { IfOk result (λ both. both.0.items ≡ map (λ s. s.numbers) all.items) }
+    ensures lists { IfOk result (λ both. spec.lists_of both.1.items ≡ map (λ s. s.receipts.items) all.items) }
+{
+    let mut numbers = Vec::with_capacity(alloc, all.len())?;
+    let mut lists = Vec::with_capacity(alloc, all.len())?;
+    for sent in all {
+        numbers.push(sent.numbers)?;
+        lists.push(sent.receipts)?;
+    }
+    Ok((numbers, lists))
+}
+
+/// Gives each session its numbers.
+fn count_all(sessions: &mut [Session<'_>], numbers: &[Numbers])
+    requires { len_of sessions.old ≡ len_of numbers.now }
+    ensures numbers { map (λ s. s.numbers) sessions.new ≡ numbers.now }
+    ensures kept { map spec.kept_of sessions.new ≡ map spec.kept_of sessions.old }
+{
+    for at in 0..numbers.len() {
+        let session = &mut sessions[at];
+        session.numbers = numbers[at];
+    }
+}
+
+/// Whether the slot at the place of these rows is the session's.
+fn is_of_slot(slots: &[Slot], session: &Session<'_>, rows: &SessionRows) -> bool
+    ensures { IsTrue result ↔ spec.IsOfSlot slots.now session.now rows.now }
+{
+    match slots.get(rows.slot) {
+        Some(slot) => slot.number() == session.slot(),
+        None => false,
+    }
+}
+
+/// Whether the slots at the places of these rows are the sessions'.
+fn are_of_slots(slots: &[Slot], sessions: &[Session<'_>], rows: &[SessionRows]) -> bool
+    requires { len_of sessions.now ≡ len_of rows.now }
+    ensures { IsTrue result ↔ AllZip (spec.IsOfSlot slots.now) sessions.now rows.now }
+{
+    for at in 0..rows.len() {
+        if !is_of_slot(slots, &sessions[at], &rows[at]) {
+            return false;
+        }
+    }
+    true
+}
+
+/// Makes the calls of each session in their order, each session in a thread of its own, and waits for all. Each session
+/// counts what its receipts tell. It waits for the locks of the slots.
+///
+/// # Errors
+///
+/// `OtherSlot`, before any call is made; `NoThread` and `OutOfMemory`, after which calls may have been made whose receipts
+/// are lost. No session counts anything then, and its slot can't be closed any more.
+pub fn send<R: Threads + Wait + Sync>(
+    rt: &R,
+    alloc: Global,
+    slots: &[Slot],
+    sessions: &mut [Session<'_>],
+    rows: &[SessionRows],
+) -> Result<Vec<Vec<Receipt>>, SendFault>
+    requires { len_of sessions.old ≡ len_of rows.now }
+    ensures slots { OnOk result (AllZip (spec.IsOfSlot slots.now) sessions.old rows.now) }
+    ensures sent { IfOk result (λ lists. spec.AreSent sessions.old rows.now (spec.lists_of lists.items)) }
+    ensures counted { IfOk result (λ lists. spec.AreCounted sessions.old (spec.lists_of lists.items) sessions.new) }
+    ensures kept { map spec.kept_of sessions.new ≡ map spec.kept_of sessions.old }
+    ensures err { OnErr result (sessions.new ≡ sessions.old) }
+{
+    if !are_of_slots(slots, sessions, rows) {
+        return Err(SendFault::OtherSlot);
+    }
+    let starts = starts_of(alloc, sessions)?;
+    let all = send_all(rt, alloc, slots, starts.as_slice(), rows)?;
+    let (numbers, lists) = taken_apart(alloc, all)?;
+    count_all(sessions, numbers.as_slice());
+    Ok(lists)
+}
