@@ -110,7 +110,8 @@ def settles():
     return "".join(text), None
 
 
-DAYS = {"posts": posts, "lines": lines, "settles": settles}
+# The longest last: what this script held itself counts as a peak of the programs that it starts.
+DAYS = {"lines": lines, "settles": settles, "posts": posts}
 
 
 def run(words, text, answer):

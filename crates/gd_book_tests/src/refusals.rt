@@ -1,0 +1,163 @@
+//! First refusals of one event, at the beginning of a day and after each of its 14 events. In that day a line of 80 is
+//! nominated (1); Timely is frozen (2) and published (3), and so is Evening (4, 5); a capacity is posted (6), and Intraday 1
+//! is frozen (7), declared impossible (8) and skipped (9); Intraday 2 is frozen (10) and declared impossible (11), the line
+//! waived (12), the cycle frozen (13) and published (14).
+
+use crate::calls::cut;
+use crate::day::{at, dth, line, name, round};
+use gd_book::{Book, Event, Refusal};
+use gd_certificate::CutFault;
+use gd_system::Element;
+use gd_units::End;
+use std::alloc::Global;
+use std::process::Abort;
+
+/// The beginning, and after each event.
+type Refusals = [Option<Refusal>; 15];
+
+const FROZEN: Option<Refusal> = Some(Refusal::Frozen);
+
+const EARLY: Option<Refusal> = Some(Refusal::TooEarly);
+
+const CUT: Option<Refusal> = Some(Refusal::NoCut);
+
+const LINE: Option<Refusal> = Some(Refusal::UnknownLine);
+
+const OTHER: Option<Refusal> = Some(Refusal::UnknownElement);
+
+const OVER: Option<Refusal> = Some(Refusal::OverContract);
+
+const OPEN: Option<Refusal> = Some(Refusal::NotFrozen);
+
+const SET: Option<Refusal> = Some(Refusal::NoCutProof(CutFault::NotCut));
+
+const ONE: Option<Refusal> = Some(Refusal::StaleRound(1));
+
+const TWO: Option<Refusal> = Some(Refusal::StaleRound(2));
+
+const THREE: Option<Refusal> = Some(Refusal::StaleRound(3));
+
+const FOUR: Option<Refusal> = Some(Refusal::StaleRound(4));
+
+/// A second line of 21 under a contract of 100.
+const OF_NOMINATE: Refusals = [
+    None, OVER, OVER, OVER, OVER, OVER, OVER, OVER, OVER, OVER, OVER, OVER, OVER, OVER, OVER,
+];
+
+/// A response for the first line.
+const OF_RESPOND: Refusals = [
+    LINE, None, FROZEN, None, FROZEN, None, None, FROZEN, None, None, FROZEN, None, None, FROZEN,
+    None,
+];
+
+/// A capacity of an element that isn't there.
+const OF_POST: Refusals = [
+    OTHER, OTHER, FROZEN, OTHER, FROZEN, OTHER, OTHER, FROZEN, OTHER, OTHER, FROZEN, OTHER, OTHER,
+    FROZEN, OTHER,
+];
+
+/// A freeze at the last stamp.
+const OF_FREEZE: Refusals = [
+    EARLY, EARLY, FROZEN, EARLY, FROZEN, EARLY, EARLY, FROZEN, None, EARLY, FROZEN, None, None,
+    FROZEN, EARLY,
+];
+
+/// A waiver of a line that isn't there.
+const OF_WAIVE: Refusals = [
+    CUT, CUT, FROZEN, CUT, FROZEN, CUT, CUT, FROZEN, LINE, CUT, FROZEN, LINE, LINE, FROZEN, CUT,
+];
+
+const OF_SKIP: Refusals = [
+    CUT, CUT, FROZEN, CUT, FROZEN, CUT, CUT, FROZEN, None, CUT, FROZEN, None, None, FROZEN, CUT,
+];
+
+/// The certificate of round 5, which was published.
+const OF_PUBLISH: Refusals = [
+    OPEN, OPEN, ONE, OPEN, TWO, OPEN, OPEN, THREE, OPEN, OPEN, FOUR, OPEN, OPEN, None, OPEN,
+];
+
+/// The cut of the rounds before, for round 5.
+const OF_DECLARE: Refusals = [
+    OPEN, OPEN, ONE, OPEN, TWO, OPEN, OPEN, THREE, OPEN, OPEN, FOUR, OPEN, OPEN, SET, OPEN,
+];
+
+/// Compares the first refusals of an event with these.
+fn shows(rt: &impl Abort, book: &Book, event: &Event, wanted: &Refusals) {
+    assert_eq!(rt; book.history().len(), 14);
+    for (length, refusal) in wanted.iter().enumerate() {
+        assert!(rt; length <= book.history().len());
+        let told = book.refusal_at(length, event).expect(rt, "memory");
+        assert_eq!(rt; told, *refusal, "after {length} events");
+    }
+}
+
+fn of_nominate(rt: &impl Abort, book: &Book) {
+    let event = Event::Nominate {
+        moment: at(rt, 0),
+        party: name(rt, "SHIP"),
+        key: line(rt, "FIRM", "Q"),
+        quantity: dth(rt, 21),
+    };
+    shows(rt, book, &event, &OF_NOMINATE);
+}
+
+fn of_respond(rt: &impl Abort, book: &Book) {
+    let event = Event::Respond {
+        moment: at(rt, 0),
+        party: name(rt, "OPR"),
+        line: 0,
+        end: End::Origin,
+        quantity: dth(rt, 1),
+    };
+    shows(rt, book, &event, &OF_RESPOND);
+}
+
+fn of_post(rt: &impl Abort, book: &Book) {
+    let event = Event::PostCapacity {
+        moment: at(rt, 0),
+        element: Element(3),
+        capacity: dth(rt, 1),
+    };
+    shows(rt, book, &event, &OF_POST);
+}
+
+fn of_freeze(rt: &impl Abort, book: &Book) {
+    let moment = at(rt, 0);
+    shows(rt, book, &Event::Freeze { moment }, &OF_FREEZE);
+}
+
+fn of_waive(rt: &impl Abort, book: &Book) {
+    let moment = at(rt, 0);
+    shows(rt, book, &Event::Waive { moment, line: 1 }, &OF_WAIVE);
+}
+
+fn of_skip(rt: &impl Abort, book: &Book) {
+    let moment = at(rt, 0);
+    shows(rt, book, &Event::Skip { moment }, &OF_SKIP);
+}
+
+fn of_publish(rt: &impl Abort, book: &Book) {
+    let (event, _) = book.history().last().expect(rt, "an event");
+    shows(rt, book, event, &OF_PUBLISH);
+}
+
+fn of_declare(rt: &impl Abort, alloc: Global, book: &Book) {
+    let event = Event::Declare {
+        moment: at(rt, 0),
+        round: round(rt, 5),
+        cut: cut(rt, alloc),
+    };
+    shows(rt, book, &event, &OF_DECLARE);
+}
+
+/// An event of each kind.
+pub(crate) fn shows_refusals(rt: &impl Abort, alloc: Global, book: &Book) {
+    of_nominate(rt, book);
+    of_respond(rt, book);
+    of_post(rt, book);
+    of_freeze(rt, book);
+    of_waive(rt, book);
+    of_skip(rt, book);
+    of_publish(rt, book);
+    of_declare(rt, alloc, book);
+}
