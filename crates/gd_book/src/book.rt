@@ -238,6 +238,13 @@ impl Book {
         self.step(Event::Skip { moment })
     }
 
+    /// The book's name.
+    pub fn name(&self) -> Name
+        ensures { result ≡ self.now.day.name }
+    {
+        self.ledger.opening.name()
+    }
+
     /// The pipeline of the book.
     pub fn system(&self) -> &System
         ensures { result.now ≡ self.now.day.held.pipeline }
