@@ -19,4 +19,4 @@ pub use call::Call;
 pub use kept::{Kept, MAX_SESSIONS, Receipt, Told};
 pub use numbers::Numbers;
 pub use session::{OfficeFault, Session, Slot};
-pub use threads::{SendFault, SessionRows, send};
+pub use threads::{Phase, SendFault, SessionRows, send};

@@ -9,18 +9,26 @@ use crate::kept::Receipt;
 use crate::numbers::Numbers;
 use crate::sent::Sent;
 use crate::session::{Session, Slot, call_by};
-use gd_units::Name;
+use gd_units::{Moment, Name};
 use std::alloc::{AllocError, Global};
 use std::snapshot::Snapshot;
 use std::sync::Wait;
 use std::thread;
 use std::thread::{Promise, PromisedHandle, Threads};
 
-/// The calls of one session in their order, and the place of its slot among the slots, from 0.
+/// The calls of one session in their order, who makes them, and the place of its slot among the slots, from 0.
 #[derive(Drop)]
 pub struct SessionRows {
     pub slot: usize,
+    pub party: Name,
     pub calls: Vec<Call>,
+}
+
+/// Sessions that are run together, and the moment of the desks that come after them.
+#[derive(Drop)]
+pub struct Phase {
+    pub sessions: Vec<SessionRows>,
+    pub moment: Moment,
 }
 
 /// Why the calls of sessions were not all made.

@@ -1,0 +1,21 @@
+-- What a book tells of receipts, of some legal history.
+use Rattle.std.proofs.Common.{◌≡◌, ℕ, List, length, Result, Ok, Err, IfOk, IfErr, OnOk}
+use Rattle.gd_machine.specs.Day.{Day}
+use Rattle.gd_machine.specs.History.{History}
+use Rattle.gd_machine.specs.Machine.{IsLegal}
+use Rattle.gd_office_part.specs.declared.kept.Receipt.{Receipt}
+use Rattle.gd_reconcile.specs.declared.mismatch.ReceiptsFault.{ReceiptsFault}
+use Rattle.gd_reconcile.specs.declared.mismatch.ReceiptsFault.TheVariants as receipts
+use Rattle.gd_reconcile.specs.Fitting.{Fit}
+use Rattle.gd_reconcile.specs.Explained.{Explains}
+use Rattle.gd_office.specs.Reconciled.{FitAsMany, ExplainsMisfit}
+
+module _ (day : Day) (h : History) (lists : List (List Receipt)) (legal : IsLegal day h) where
+  pub fit_as_many : (r : Result ℕ ReceiptsFault) → IfOk r (λ n. length h ≡ n) → OnOk r (Fit day h lists) → IfOk r (FitAsMany lists)
+  fit_as_many (Ok n) long fit = (day, h, legal, long, fit)
+  fit_as_many (Err e) long fit = tt
+
+  pub explained : (r : Result ℕ ReceiptsFault) → IfErr r (Explains day h lists) → IfErr r (ExplainsMisfit lists)
+  explained (Ok n) x = tt
+  explained (Err (receipts.Mismatch m)) x = (day, h, legal, x)
+  explained (Err receipts.OutOfMemory) x = tt

@@ -1,0 +1,4 @@
+pub mod Naming
+pub mod Slots
+pub mod Faults
+pub mod Reconciled
