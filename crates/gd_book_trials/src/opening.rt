@@ -1,0 +1,141 @@
+//! A book on one segment S1 from A to B, with a receipt point R1 at A and a delivery point D1 at B.
+
+use gd_book::{Book, Refusal, Reply};
+use gd_calendar::{Calendar, GasDay};
+use gd_contracts::{Contract, Contracts, Service};
+use gd_lines::LineKey;
+use gd_system::{Kind, System, SystemBuilder};
+use gd_units::{Dth, Moment, Name};
+use jiff::civil::date;
+use jiff::tz::TimeZone;
+use std::alloc::{AllocError, Global};
+use std::io;
+
+/// Why a trial comes to no end.
+#[derive(Clone, Copy, Debug, PartialEq, Eq, Drop)]
+pub(crate) enum Fault {
+    /// A value can't be made, of its bounds or of memory.
+    Unmade,
+    /// The book, or who makes what it is handed, refuses.
+    Refused(Refusal),
+    /// A row can't be printed, or there is no clock.
+    Untold,
+}
+
+impl From<AllocError> for Fault {
+    fn from(_e: AllocError) -> Fault {
+        Fault::Refused(Refusal::OutOfMemory)
+    }
+}
+
+impl From<Refusal> for Fault {
+    fn from(refusal: Refusal) -> Fault {
+        Fault::Refused(refusal)
+    }
+}
+
+impl From<io::Error> for Fault {
+    fn from(_e: io::Error) -> Fault {
+        Fault::Untold
+    }
+}
+
+/// What is left of an answer, once the reply is dropped.
+pub(crate) fn done(answer: Result<Reply, Refusal>) -> Result<(), Fault> {
+    match answer {
+        Ok(_reply) => Ok(()),
+        Err(refusal) => Err(Fault::Refused(refusal)),
+    }
+}
+
+pub(crate) fn name(text: &str) -> Result<Name, Fault> {
+    Name::read(text).map_err(|_| Fault::Unmade)
+}
+
+pub(crate) fn dth(number: u64) -> Result<Dth, Fault> {
+    Dth::new(number).map_err(|_| Fault::Unmade)
+}
+
+pub(crate) fn at(seconds: i64) -> Result<Moment, Fault> {
+    Moment::new(seconds).ok_or(Fault::Unmade)
+}
+
+/// The line in a package of the contract, from R1 to D1.
+pub(crate) fn line(package: &str) -> Result<LineKey, Fault> {
+    Ok(LineKey {
+        contract: name("FIRM")?,
+        package: name(package)?,
+        origin: name("R1")?,
+        dest: name("D1")?,
+    })
+}
+
+fn add_segment(builder: &mut SystemBuilder, capacity: u64) -> Result<(), Fault> {
+    let (from, to) = (name("A")?, name("B")?);
+    let added = builder.segment(name("S1")?, from, to, dth(capacity)?);
+    added.map_err(|_| Fault::Unmade)
+}
+
+fn add_points(builder: &mut SystemBuilder) -> Result<(), Fault> {
+    for (text, kind, place, operator) in [
+        ("R1", Kind::Receipt, "A", "OPR"),
+        ("D1", Kind::Delivery, "B", "OPD"),
+    ] {
+        let (place, operator) = (name(place)?, name(operator)?);
+        let added = builder.point(name(text)?, kind, place, operator, dth(Dth::MAX)?);
+        added.map_err(|_| Fault::Unmade)?;
+    }
+    Ok(())
+}
+
+fn add_elements(builder: &mut SystemBuilder, capacity: u64) -> Result<(), Fault> {
+    add_segment(builder, capacity)?;
+    add_points(builder)
+}
+
+fn pipeline(alloc: Global, capacity: u64) -> Result<System, Fault> {
+    let mut builder = SystemBuilder::new(alloc);
+    add_elements(&mut builder, capacity)?;
+    builder.finish().map_err(|_| Fault::Unmade)
+}
+
+fn add_contract(contracts: &mut Contracts) -> Result<(), Fault> {
+    let (origin, dest) = (name("R1")?, name("D1")?);
+    let added = contracts.add(Contract {
+        name: name("FIRM")?,
+        shipper: name("SHIP")?,
+        quantity: dth(1_000_000)?,
+        service: Service::Firm { origin, dest },
+    });
+    added.map_err(|_| Fault::Unmade)
+}
+
+fn contracts(alloc: Global, capacity: u64) -> Result<Contracts, Fault> {
+    let mut contracts = Contracts::new(alloc, pipeline(alloc, capacity)?);
+    add_contract(&mut contracts)?;
+    Ok(contracts)
+}
+
+fn calendar(alloc: Global) -> Result<Calendar, Fault> {
+    let day = GasDay::new(date(2026, 3, 8)).map_err(|_| Fault::Unmade)?;
+    let zone = TimeZone::posix("CST6CDT,M3.2.0,M11.1.0").map_err(|_| Fault::Unmade)?;
+    Calendar::new(alloc, day, &zone).map_err(|_| Fault::Unmade)
+}
+
+/// What a book opens with, but for the lines that are carried over.
+fn opening(alloc: Global, capacity: u64) -> Result<(Name, Contracts, Calendar), Fault> {
+    let demo = name("DEMO")?;
+    let calendar = calendar(alloc)?;
+    let contracts = contracts(alloc, capacity)?;
+    Ok((demo, contracts, calendar))
+}
+
+/// A book of the gas day 2026-03-08, with this capacity of S1 and a firm contract from R1 to D1.
+pub(crate) fn book(
+    alloc: Global,
+    capacity: u64,
+    carry: Vec<(LineKey, Dth)>,
+) -> Result<Book, Fault> {
+    let (demo, contracts, calendar) = opening(alloc, capacity)?;
+    Book::open(alloc, demo, contracts, calendar, carry).map_err(|_| Fault::Unmade)
+}
