@@ -1,9 +1,10 @@
-//! One certificate by each call. More are run by the program.
+//! A certificate by classes alone, and copies. The program runs the rest.
 
 use crate::texts::asked;
-use gd_certificate::{CertFault, Checked, Cut, Prices, check, check_classes, check_par};
-use gd_cost::{Cost, Lex, Pair, Tariff};
-use gd_question::Element;
+use gd_certificate::{CertFault, Checked, Cut, Prices, check_classes, check_par};
+use gd_cost::{Cost, Lex, Pair};
+use gd_question::Question;
+use gd_schedule::Schedule;
 use gd_text::Asked;
 use std::alloc::{AllocError, Global};
 use std::process::Abort;
@@ -22,17 +23,9 @@ sched,1,80,,,,,
 sched,2,20,,,,,
 ";
 
-/// A number at a class's word.
-fn at_class(rt: &impl Abort, class: usize, number: i128) -> Lex<8> {
-    assert!(rt; 1 <= class && class <= 8);
-    let mut words = [0; 8];
-    words[class - 1] = number;
-    Lex::of(words)
-}
-
-/// A price of so much at class 4, and so much at its spread.
-fn price(rt: &impl Abort, number: i128, spread: i128) -> Tariff {
-    Pair::of(at_class(rt, 4, number), at_class(rt, 4, spread))
+/// A number at the word of class 4.
+fn at_class_4(number: i128) -> Lex<8> {
+    Lex::of([0, 0, 0, number, 0, 0, 0, 0])
 }
 
 /// The segment's price, and none at the points.
@@ -44,74 +37,39 @@ fn priced<C: Cost + Drop>(alloc: Global, value: C) -> Result<Prices<C>, AllocErr
     Ok(Prices::of(values))
 }
 
-/// What the check tells at this price.
-fn told(alloc: Global, asked: &Asked, value: Tariff) -> Result<Result<(), CertFault>, AllocError> {
-    let prices = priced(alloc, value)?;
-    Ok(check(alloc, &asked.question, &asked.schedule, &prices))
-}
-
-/// Each price with what the check tells of it.
-fn tells(rt: &impl Abort, alloc: Global, asked: &Asked) -> Result<(), AllocError> {
-    for (number, spread, answer) in [
-        (1, -4, Ok(())),
-        (1, 0, Err(CertFault::Overfilled(1))),
-        (0, 0, Err(CertFault::Underfilled(1))),
-        ((1 << 40) + 1, 0, Err(CertFault::PriceTooLarge(Element(0)))),
-        (-1, 0, Err(CertFault::PriceOnSlack(Element(0)))),
-    ] {
-        assert_eq!(rt; told(alloc, asked, price(rt, number, spread))?, answer);
-    }
-    Ok(())
-}
-
-#[test]
-fn a_price_for_the_fourth_class(rt: HostRuntime) -> Result<(), Fail> {
-    let asked = asked(rt.alloc(), TWO_LINES.as_bytes())?;
-    tells(&rt, rt.alloc(), &asked)?;
-    Ok(())
-}
-
 /// What the check by classes alone tells at a price of so much at class 4.
-fn told_by_classes(
+fn told(
     rt: &impl Abort,
     alloc: Global,
-    asked: &Asked,
+    question: &Question,
+    schedule: &Schedule,
     number: i128,
-) -> Result<Result<(), CertFault>, AllocError> {
-    let prices = priced(alloc, at_class(rt, 4, number))?;
-    Ok(check_classes(alloc, &asked.question, &asked.schedule, &prices))
+) -> Result<(), CertFault> {
+    let prices = priced(alloc, at_class_4(number)).expect(rt, "memory");
+    check_classes(alloc, question, schedule, &prices)
 }
 
 /// Two prices with what the check by classes alone tells of them.
-fn tells_by_classes(rt: &impl Abort, alloc: Global, asked: &Asked) -> Result<(), AllocError> {
+fn tells(rt: &impl Abort, alloc: Global, asked: &Asked) {
     for (number, answer) in [(1, Ok(())), (0, Err(CertFault::Underfilled(1)))] {
-        assert_eq!(rt; told_by_classes(rt, alloc, asked, number)?, answer);
+        assert_eq!(rt;
+            told(rt, alloc, &asked.question, &asked.schedule, number),
+            answer
+        );
     }
-    Ok(())
 }
 
 #[test]
-fn by_classes(rt: HostRuntime) -> Result<(), Fail> {
-    let asked = asked(rt.alloc(), TWO_LINES.as_bytes())?;
-    tells_by_classes(&rt, rt.alloc(), &asked)?;
-    Ok(())
+fn by_classes(rt: HostRuntime) {
+    tells(&rt, rt.alloc(), &asked(&rt, rt.alloc(), TWO_LINES));
 }
 
-/// What the check by several threads tells, and how many dekatherms the second line has.
-fn told_together(
-    rt: &(impl Threads + Sync + Abort),
-    alloc: Global,
-    value: Tariff,
-) -> Result<Result<u64, CertFault>, Fail> {
-    let Asked { question, schedule } = asked(alloc, TWO_LINES.as_bytes())?;
-    let prices = priced(alloc, value)?;
-    match check_par(rt, alloc, question, schedule, prices) {
-        Ok(checked) => {
-            let copy = checked.try_clone(alloc)?;
-            Ok(Ok(shown(rt, &copy)))
-        }
-        Err((fault, _, _, _)) => Ok(Err(fault)),
-    }
+/// The schedule, checked by several threads.
+fn checked(rt: &(impl Threads + Sync + Abort), alloc: Global) -> Checked {
+    let Asked { question, schedule } = asked(rt, alloc, TWO_LINES);
+    let prices = priced(alloc, Pair::of(at_class_4(1), at_class_4(-4))).expect(rt, "memory");
+    let checked = check_par(rt, alloc, question, schedule, prices);
+    checked.ok().expect(rt, "a certificate")
 }
 
 /// The last quantity of the schedule, where lines and prices are as many as in the question.
@@ -123,21 +81,16 @@ fn shown(rt: &impl Abort, checked: &Checked) -> u64 {
     checked.schedule().quantity(1).get()
 }
 
-#[test]
-fn together(rt: HostRuntime) -> Result<(), Fail> {
-    let best = told_together(&rt, rt.alloc(), price(&rt, 1, -4))?;
-    assert_eq!(rt; best, Ok(20));
-    let level = told_together(&rt, rt.alloc(), price(&rt, 1, 0))?;
-    assert_eq!(rt; level, Err(CertFault::Overfilled(1)));
-    Ok(())
+fn shown_of_a_copy(rt: &impl Abort, alloc: Global, checked: &Checked) -> u64 {
+    shown(rt, &checked.try_clone(alloc).expect(rt, "memory"))
 }
 
 #[test]
-fn copy_of_prices(rt: HostRuntime) -> Result<(), Fail> {
-    let prices = priced(rt.alloc(), price(&rt, 1, -4))?;
-    let same = prices.try_clone(rt.alloc())?;
-    assert_eq!(rt; same.values(), prices.values());
-    Ok(())
+fn copy_of_a_certificate(rt: HostRuntime) {
+    assert_eq!(rt;
+        shown_of_a_copy(&rt, rt.alloc(), &checked(&rt, rt.alloc())),
+        20
+    );
 }
 
 /// All but the pool is inside.

@@ -1,4 +1,5 @@
-//! Worked examples by calls: pipelines, questions, certificates, networks, repairs and the solver. Each question is a text.
+//! Worked examples by calls that no command of the program makes: certificates, networks, the settling and the solver.
+//! Each question is a text.
 //!
 //! There is nothing here but tests.
 #![tactic(auto)]
@@ -6,15 +7,7 @@
 #[cfg(test)]
 mod certificate;
 #[cfg(test)]
-mod days;
-#[cfg(test)]
-mod flow;
-#[cfg(test)]
 mod network;
-#[cfg(test)]
-mod pipeline;
-#[cfg(test)]
-mod question;
 #[cfg(test)]
 mod settling;
 #[cfg(test)]

@@ -1,4 +1,4 @@
-//! Networks of one segment of 100 between two places, a receipt point, a delivery point and two lines.
+//! A network of one segment of 100 between two places, a receipt point, a delivery point and two lines.
 
 use crate::texts::{asked, scheduled};
 use gd_network::Network;
@@ -6,7 +6,6 @@ use gd_question::{Element, Question};
 use gd_schedule::Schedule;
 use std::alloc::{AllocError, Global};
 use std::process::Abort;
-use std::test::Fail;
 
 const TWO_LINES: &str = "\
 segment,S1,A,B,100,,,
@@ -21,21 +20,6 @@ const FLOORS: [i64; 23] = [
     33, 33, 33, 0, 0, 0, 0, 0, 0, 0, 0, 0, 0, 5, 5, 5, 5, 5, 5, 3, 0, 0, 0,
 ];
 
-/// The network of no schedule begins with the floors.
-fn begun_alone(alloc: Global, question: &Question) -> Result<Vec<i64>, AllocError> {
-    let network = Network::of(alloc, question)?;
-    let first = network.first().try_clone(alloc)?;
-    Ok(first.into_amounts())
-}
-
-#[test]
-fn begins_with_floors(rt: HostRuntime) -> Result<(), Fail> {
-    let asked = asked(rt.alloc(), TWO_LINES.as_bytes())?;
-    let first = begun_alone(rt.alloc(), &asked.question)?;
-    assert_eq!(rt; first.as_slice(), FLOORS.as_slice());
-    Ok(())
-}
-
 /// The arcs, nodes and links of the two lines' network.
 fn shows_arcs(rt: &impl Abort, network: &Network<'_>) {
     assert_eq!(rt; network.node_count(), 4);
@@ -47,12 +31,20 @@ fn shows_arcs(rt: &impl Abort, network: &Network<'_>) {
     assert_eq!(rt; network.links(3).len(), 21);
 }
 
+/// The network of no schedule begins with the floors.
+fn shows_floors(rt: &impl Abort, network: &Network<'_>) {
+    assert_eq!(rt; network.first().amounts(), FLOORS.as_slice());
+}
+
+fn shows(rt: &impl Abort, alloc: Global, question: &Question) {
+    let network = Network::of(alloc, question).expect(rt, "memory");
+    shows_arcs(rt, &network);
+    shows_floors(rt, &network);
+}
+
 #[test]
-fn arcs_and_links(rt: HostRuntime) -> Result<(), Fail> {
-    let asked = asked(rt.alloc(), TWO_LINES.as_bytes())?;
-    let network = Network::of(rt.alloc(), &asked.question)?;
-    shows_arcs(&rt, &network);
-    Ok(())
+fn arcs_links_and_floors(rt: HostRuntime) {
+    shows(&rt, rt.alloc(), &asked(&rt, rt.alloc(), TWO_LINES).question);
 }
 
 /// The schedule of a schedule's flow; `None` where it isn't allowed.
@@ -71,15 +63,16 @@ fn there_and_back(
 }
 
 /// A schedule's flow gives it back.
-fn comes_back(rt: &impl Abort, alloc: Global, question: &Question) -> Result<(), Fail> {
-    let schedule = scheduled(rt, alloc, [63, 37].as_slice())?;
-    let back = there_and_back(alloc, question, &schedule)?.ok_or("not allowed")?;
-    assert_eq!(rt; back.quantities(), schedule.quantities());
-    Ok(())
+fn comes_back(rt: &impl Abort, alloc: Global, question: &Question) {
+    let schedule = scheduled(rt, alloc, [63, 37].as_slice());
+    let back = there_and_back(alloc, question, &schedule).expect(rt, "memory");
+    assert_eq!(rt;
+        back.expect(rt, "allowed").quantities(),
+        schedule.quantities()
+    );
 }
 
 #[test]
-fn flows_come_back(rt: HostRuntime) -> Result<(), Fail> {
-    let asked = asked(rt.alloc(), TWO_LINES.as_bytes())?;
-    comes_back(&rt, rt.alloc(), &asked.question)
+fn flows_come_back(rt: HostRuntime) {
+    comes_back(&rt, rt.alloc(), &asked(&rt, rt.alloc(), TWO_LINES).question);
 }

@@ -3,11 +3,11 @@
 use crate::texts::asked;
 use gd_cost::Lex;
 use gd_flow::{Feasible, Repaired, repair};
-use gd_mincost::{settle, show_best};
+use gd_mincost::{Best, settle, show_best};
 use gd_network::Network;
+use gd_question::Question;
 use std::alloc::Global;
 use std::process::Abort;
-use std::test::Fail;
 
 /// Two segments one after another, with a long line over both and short ones on each, of several classes. A pool takes gas
 /// that leaves it again.
@@ -29,21 +29,29 @@ line,P,DC,6,20,30,,
 line,P,DB,2,0,7,,
 ";
 
-/// Of the feasible flow that the repair finds from the floors, a best one by classes alone.
-fn settles(rt: &impl Abort, alloc: Global, feasible: Feasible<'_>) -> Result<(), Fail> {
-    let best = settle::<Lex<8>>(alloc, feasible)?;
+/// The flow that the repair finds from the floors.
+fn feasible<'q>(rt: &impl Abort, alloc: Global, question: &'q Question) -> Feasible<'q> {
+    let network = Network::of(alloc, question).expect(rt, "memory");
+    match repair(alloc, network).expect(rt, "memory") {
+        Repaired::Feasible(feasible) => feasible,
+        Repaired::Impossible(_) => panic!(rt; "no schedule is allowed"),
+    }
+}
+
+fn is_best(best: &Best<'_, Lex<8>>) -> bool {
     let amounts = best.flow().amounts();
-    assert!(rt; amounts.len() == best.network().arc_count());
-    assert!(rt; show_best::<Lex<8>>(best.network(), amounts, best.potentials()));
-    Ok(())
+    amounts.len() == best.network().arc_count()
+        && show_best::<Lex<8>>(best.network(), amounts, best.potentials())
+}
+
+/// Of that flow, a best one by classes alone.
+fn settles(rt: &impl Abort, alloc: Global, question: &Question) {
+    let best = settle::<Lex<8>>(alloc, feasible(rt, alloc, question));
+    assert!(rt; is_best(&best.expect(rt, "memory")));
 }
 
 /// Where nothing is proposed, the settling finds potentials of its own.
 #[test]
-fn nothing_is_proposed(rt: HostRuntime) -> Result<(), Fail> {
-    let asked = asked(rt.alloc(), MIXED.as_bytes())?;
-    match repair(rt.alloc(), Network::of(rt.alloc(), &asked.question)?)? {
-        Repaired::Feasible(feasible) => settles(&rt, rt.alloc(), feasible),
-        Repaired::Impossible(_) => Err("no schedule is allowed".into()),
-    }
+fn nothing_is_proposed(rt: HostRuntime) {
+    settles(&rt, rt.alloc(), &asked(&rt, rt.alloc(), MIXED).question);
 }

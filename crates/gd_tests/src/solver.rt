@@ -6,7 +6,6 @@ use gd_question::Question;
 use gd_solver::{Answer, solve_from};
 use std::alloc::Global;
 use std::process::Abort;
-use std::test::Fail;
 
 /// Two segments one after another, a long line over both, and a short one on each.
 const LONG_AND_SHORT: &str = "\
@@ -32,27 +31,21 @@ fn is_best(alloc: Global, question: &Question, answer: &Answer, numbers: &[u64])
 }
 
 /// Which schedule it begins from makes no difference here.
-fn solves_from(
-    rt: &impl Abort,
-    alloc: Global,
-    question: &Question,
-    numbers: &[u64],
-) -> Result<(), Fail> {
-    let first = scheduled(rt, alloc, numbers)?;
-    let answer = solve_from(alloc, question, &first)?;
+fn solves_from(rt: &impl Abort, alloc: Global, question: &Question, numbers: &[u64]) {
+    let first = scheduled(rt, alloc, numbers);
+    let answer = solve_from(alloc, question, &first).expect(rt, "memory");
     assert!(rt; is_best(alloc, question, &answer, [0, 100, 100].as_slice()));
-    Ok(())
 }
 
 /// A schedule to begin with may be too short or too long, and its quantities too large.
-fn solves_from_each(rt: &impl Abort, alloc: Global, question: &Question) -> Result<(), Fail> {
-    solves_from(rt, alloc, question, [100, 0].as_slice())?;
-    solves_from(rt, alloc, question, [50, 50, 50].as_slice())?;
-    solves_from(rt, alloc, question, [1_000_000_000; 7].as_slice())
+fn solves_from_each(rt: &impl Abort, alloc: Global, question: &Question) {
+    solves_from(rt, alloc, question, [100, 0].as_slice());
+    solves_from(rt, alloc, question, [50, 50, 50].as_slice());
+    solves_from(rt, alloc, question, [1_000_000_000; 7].as_slice());
 }
 
 #[test]
-fn begins_from_any_schedule(rt: HostRuntime) -> Result<(), Fail> {
-    let asked = asked(rt.alloc(), LONG_AND_SHORT.as_bytes())?;
-    solves_from_each(&rt, rt.alloc(), &asked.question)
+fn begins_from_any_schedule(rt: HostRuntime) {
+    let asked = asked(&rt, rt.alloc(), LONG_AND_SHORT);
+    solves_from_each(&rt, rt.alloc(), &asked.question);
 }
