@@ -1,0 +1,2 @@
+pub mod OfficePhases
+pub mod Ending
