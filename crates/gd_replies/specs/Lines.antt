@@ -78,6 +78,20 @@ fields_of (reply.Cycle c leaves received quick confirmed schedules effective) =
 fields_of (reply.Hours length timely evening intraday_1 intraday_2 intraday_3) =
     codes "hours" ∷ decimal length ∷ decimal timely ∷ decimal evening
     ∷ decimal intraday_1 ∷ decimal intraday_2 ∷ decimal intraday_3 ∷ []
+fields_of (reply.ReceiptAccepted session n cycle i) =
+    codes "receipt" ∷ decimal session ∷ codes "accepted" ∷ decimal n ∷ decimal cycle ∷ decimal i ∷ []
+fields_of (reply.ReceiptDone session n) = codes "receipt" ∷ decimal session ∷ codes "done" ∷ decimal n ∷ []
+fields_of (reply.ReceiptRefused session len call refusal) =
+    codes "receipt" ∷ decimal session ∷ codes "refused" ∷ decimal len
+    ∷ decimal (refusal_number call refusal) ∷ refusal_name refusal ∷ []
+fields_of (reply.Slot k) = codes "slot" ∷ decimal k ∷ []
+fields_of (reply.Reconciled k events nominations dekatherms) =
+    codes "reconciled" ∷ decimal k ∷ decimal events ∷ decimal nominations ∷ decimal dekatherms ∷ []
+fields_of (reply.Mismatch k list index) = codes "mismatch" ∷ decimal k ∷ decimal list ∷ decimal index ∷ []
+fields_of (reply.Missing k count) =
+    codes "refused" ∷ codes "close" ∷ codes "3" ∷ codes "Missing" ∷ decimal count ∷ decimal k ∷ []
+fields_of reply.NoThread = codes "fault" ∷ codes "0" ∷ codes "NoThread" ∷ []
+fields_of reply.TooMany = codes "fault" ∷ codes "0" ∷ codes "TooMany" ∷ []
 
 -- the bytes of a reply
 abbrev pub line_of : Reply → List ℕ

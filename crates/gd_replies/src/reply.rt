@@ -123,6 +123,52 @@ pub enum Reply {
         intraday_2: u64,
         intraday_3: u64,
     },
+    /// A session's receipt: its nomination is accepted for a cycle. Here and below sessions and slots count from 1, a
+    /// session over the whole text, and the event's number in the history comes behind the session.
+    ReceiptAccepted {
+        session: u64,
+        number: u64,
+        cycle: u64,
+        line: u64,
+    },
+    /// A session's receipt: its response or capacity is accepted.
+    ReceiptDone {
+        session: u64,
+        number: u64,
+    },
+    /// A session's receipt: the history had so many events, and its call is refused.
+    ReceiptRefused {
+        session: u64,
+        length: u64,
+        call: Call,
+        refusal: Refusal,
+    },
+    /// What the desk of this slot is told follows.
+    Slot(u64),
+    /// All receipts of a slot fit its history of so many events, which has so many nominations of so many dekatherms a
+    /// gas day together.
+    Reconciled {
+        slot: u64,
+        events: u64,
+        nominations: u64,
+        dekatherms: u64,
+    },
+    /// A receipt is the first of its slot that doesn't fit the history: which one, counted from 1, of which list. List 0
+    /// is the desk's, each other one that of the session of this number.
+    Mismatch {
+        slot: u64,
+        list: u64,
+        index: u64,
+    },
+    /// The sessions of a slot can't be closed: so many that are open are not among those handed in.
+    Missing {
+        slot: u64,
+        count: u64,
+    },
+    /// No thread could be started.
+    NoThread,
+    /// One more session of a slot is to be opened than may be open at a time.
+    TooMany,
 }
 
 /// A word of the spread as a field, which is empty where the word is 0.
@@ -259,6 +305,45 @@ impl fmt::Display for Reply {
                 f,
                 "hours,{length},{timely},{evening},{intraday_1},{intraday_2},{intraday_3},\n"
             ),
+            Reply::ReceiptAccepted {
+                session,
+                number,
+                cycle,
+                line,
+            } => write!(f, "receipt,{session},accepted,{number},{cycle},{line},,\n"),
+            Reply::ReceiptDone { session, number } => {
+                write!(f, "receipt,{session},done,{number},,,,\n")
+            }
+            Reply::ReceiptRefused {
+                session,
+                length,
+                call,
+                refusal,
+            } => {
+                let number = refusal_number(*call, *refusal);
+                write!(
+                    f,
+                    "receipt,{session},refused,{length},{number},{refusal},,\n"
+                )
+            }
+            Reply::Slot(slot) => write!(f, "slot,{slot},,,,,,\n"),
+            Reply::Reconciled {
+                slot,
+                events,
+                nominations,
+                dekatherms,
+            } => write!(
+                f,
+                "reconciled,{slot},{events},{nominations},{dekatherms},,,\n"
+            ),
+            Reply::Mismatch { slot, list, index } => {
+                write!(f, "mismatch,{slot},{list},{index},,,,\n")
+            }
+            Reply::Missing { slot, count } => {
+                write!(f, "refused,close,3,Missing,{count},{slot},,\n")
+            }
+            Reply::NoThread => f.write_str("fault,0,NoThread,,,,,\n"),
+            Reply::TooMany => f.write_str("fault,0,TooMany,,,,,\n"),
         }
     }
 }
