@@ -1,12 +1,10 @@
 -- What a row of a day's text does to its book, and what is told of it.
-use Rattle.std.specs.Prelude.{◌≡◌, ◌≢◌, ◌⊎◌, ℕ, ◌-◌, true, false, List, [], ◌∷◌, ◌++◌, map, length, take, Ok}
-use Rattle.std.specs.Option.{unwrap_or}
+use Rattle.std.specs.Prelude.{◌≡◌, ◌≢◌, ◌⊎◌, ℕ, ◌-◌, true, false, List, [], ◌∷◌, ◌++◌, map, take, Ok}
 use Rattle.gd_rules.specs.Schedule.{IsAllowed}
 use Rattle.gd_cost.specs.Parts.{class_words}
 use Rattle.gd_cost.specs.declared.lex.Lex.{Lex}
 use Rattle.gd_cost.specs.declared.pair.Pair.{Pair}
-use Rattle.gd_system.specs.Pipeline.{Pipeline, elements_of, element_number}
-use Rattle.gd_system.specs.declared.part.Element.{Element}
+use Rattle.gd_system.specs.Pipeline.{Pipeline}
 use Rattle.gd_certificate.specs.Checked.{Certificate, IsRight}
 use Rattle.gd_certificate.specs.Cutting.{Members, IsShaped, Cuts}
 use Rattle.gd_certificate.specs.InForce.{ExplainsTariff}
@@ -29,6 +27,7 @@ use Rattle.gd_text.specs.Members.{members_of}
 use Rattle.gd_text.specs.Prices.{Table, ArePrices, prices_of}
 use Rattle.gd_text.specs.Values.{quantities_of}
 use Rattle.gd_day.specs.Calls.{Call as DayCall}
+use Rattle.gd_day.specs.Named.{element_named}
 use Rattle.gd_course.specs.Told.{Steps, Stays}
 
 abbrev pub Tariffs : Type 0
@@ -77,10 +76,6 @@ abbrev pub Declares : Day → History → ℕ → ℕ → List Row → List Repl
 Declares day h moment round group rows after =
     (cut : Members) × (members_of group day.held.pipeline ≡ Ok cut)
     × Steps call.Declare day h (event.Declare moment round cut) rows after
-
--- The element of this name; one that isn't there has the number past the last.
-abbrev pub element_named : Pipeline → List ℕ → Element
-element_named p name = record { 0 = unwrap_or (element_number p name) (length (elements_of p)) }
 
 -- What a row with the rows of its group before it does to the book, and what is told of it. Rows count lines from 1.
 abbrev pub RowGives : Day → History → List Row → EventRow → List Reply → History → Type 0

@@ -2,6 +2,7 @@
 
 ghost use Rattle.std.specs.Prelude.{◌≡◌, ◌-◌, IfOk};
 ghost use Rattle.gd_day.specs.Groups.{Passes};
+ghost use Rattle.gd_day.specs.Named as named;
 ghost use Rattle.gd_machine.specs.declared.event.Event.TheVariants as event;
 ghost use Rattle.gd_course.specs.Course as spec;
 ghost use Rattle.gd_course.specs.Told.{Steps};
@@ -10,10 +11,9 @@ use crate::rows::{one_row, tell};
 use crate::settle::{Offer, declare_as, publish_frozen, settle};
 use gd_board::{Board, BoardNote};
 use gd_book::{Book, Refusal};
-use gd_day::{offered_cut, offered_prices, offered_schedule};
+use gd_day::{element_named, offered_cut, offered_prices, offered_schedule};
 use gd_lines::LineKey;
 use gd_replies::{Call, Reply, refused_reply};
-use gd_system::Element;
 use gd_text_part::{EventRow, Row};
 use gd_units::{Dth, End, Moment, Name, Round};
 use std::alloc::{AllocError, Global};
@@ -53,16 +53,6 @@ fn respond(
     tell(alloc, book, Call::Respond, answer)
 }
 
-/// The element of this name; one that isn't there has the number past the last.
-fn element_named(book: &Book, name: Name) -> Element
-    ensures { result ≡ spec.element_named book.now.day.held.pipeline name }
-{
-    let system = book.system();
-    system
-        .element(name)
-        .unwrap_or(Element(system.element_count()))
-}
-
 fn post(
     alloc: Global,
     book: &mut Book,
@@ -71,11 +61,11 @@ fn post(
     capacity: Dth,
 ) -> Result<Vec<Reply>, AllocError>
     ensures gives { IfOk result (λ rows. Steps Call.Post book.old.day book.old.history
-        (event.PostCapacity moment (spec.element_named book.old.day.held.pipeline element) capacity)
+        (event.PostCapacity moment (named.element_named book.old.day.held.pipeline element) capacity)
         rows.items book.new.history) }
     ensures day { book.new.day ≡ book.old.day }
 {
-    let element = element_named(book, element);
+    let element = element_named(book.system(), element);
     let answer = book.post_capacity(moment, element, capacity);
     tell(alloc, book, Call::Post, answer)
 }

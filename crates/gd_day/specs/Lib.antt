@@ -4,4 +4,5 @@ pub mod Contracted
 pub mod Groups
 pub mod Heads
 pub mod Marks
+pub mod Named
 pub mod Opened

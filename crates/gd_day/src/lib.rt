@@ -7,7 +7,9 @@ mod carry;
 mod contracts;
 mod group;
 mod head;
+mod named;
 mod text;
 
 pub use call::{event_of, offered_cut, offered_prices, offered_schedule};
+pub use named::element_named;
 pub use text::{DayText, day_text_of};
