@@ -7,14 +7,14 @@ use Rattle.gd_text_part.specs.declared.row.OfficeRow.TheVariants as office
 use Rattle.gd_text_part.specs.declared.row.Row.{Row}
 use Rattle.gd_text_part.specs.declared.row.Row.TheVariants as row
 use Rattle.gd_office_phases.specs.declared.calls.SessionText.{SessionText}
-use Rattle.gd_office_phases.specs.declared.phases.Phase.{Phase}
+use Rattle.gd_office_phases.specs.declared.phases.PhaseText.{PhaseText}
 use Rattle.gd_office_phases.specs.Phases.{Called, Round, session, phase, calls_before, phases_after, phases_with}
 
 abbrev called : ℕ → List ℕ → List EventRow → Called
 called slot party calls = record { slot = slot; party = party; calls = calls }
 
 -- a session joins the phase
-pub joins : (phases : List Phase) (sessions : List SessionText) (s : SessionText) (slot : ℕ) (party : List ℕ) (rows : List Row)
+pub joins : (phases : List PhaseText) (sessions : List SessionText) (s : SessionText) (slot : ℕ) (party : List ℕ) (rows : List Row)
     → s.slot ≡ slot - 1 → s.party ≡ party → s.calls.items ≡ calls_before rows
     → phases_with phases sessions (row.Office (office.Session slot party) ∷ rows) ≡ phases_with phases (sessions ++ s ∷ []) rows
 joins phases sessions s slot party rows e f g =
@@ -25,7 +25,7 @@ joins phases sessions s slot party rows e f g =
     ∙ ap (λ (l : List EventRow). map session sessions ++ called (slot - 1) party l ∷ []) g))
 
 -- a desk's round ends it
-pub ends : (phases : List Phase) (sessions : List SessionText) (p : Phase) (moment : ℕ) (rows : List Row)
+pub ends : (phases : List PhaseText) (sessions : List SessionText) (p : PhaseText) (moment : ℕ) (rows : List Row)
     → p.sessions.items ≡ sessions → p.moment ≡ moment
     → phases_with phases sessions (row.Office (office.Desk moment) ∷ rows) ≡ phases_with (phases ++ p ∷ []) [] rows
 ends phases sessions p moment rows e f =

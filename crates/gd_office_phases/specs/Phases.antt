@@ -5,7 +5,7 @@ use Rattle.gd_text_part.specs.declared.row.OfficeRow.TheVariants as office
 use Rattle.gd_text_part.specs.declared.row.Row.{Row}
 use Rattle.gd_text_part.specs.declared.row.Row.TheVariants as row
 use Rattle.gd_office_phases.specs.declared.calls.SessionText.{SessionText}
-use Rattle.gd_office_phases.specs.declared.phases.Phase.{Phase}
+use Rattle.gd_office_phases.specs.declared.phases.PhaseText.{PhaseText}
 
 -- A session with the book of a slot, counted from 0: who calls, and what, in order.
 pub record Called : Type 0 where
@@ -21,7 +21,7 @@ pub record Round : Type 0 where
 abbrev pub session : SessionText → Called
 session s = record { slot = s.slot; party = s.party; calls = s.calls.items }
 
-abbrev pub phase : Phase → Round
+abbrev pub phase : PhaseText → Round
 phase p = record { sessions = map session p.sessions.items; moment = p.moment }
 
 -- The calls of a session that stands before these rows: those before the next `session` or `desk` row.
@@ -45,5 +45,5 @@ abbrev pub phases_of : List Row → List Round
 phases_of rows = phases_after [] rows
 
 -- Phases that have ended, and those of the rows that are left, where the next has these sessions already.
-abbrev pub phases_with : List Phase → List SessionText → List Row → List Round
+abbrev pub phases_with : List PhaseText → List SessionText → List Row → List Round
 phases_with phases sessions rows = map phase phases ++ phases_after (map session sessions) rows

@@ -5,4 +5,4 @@ mod calls;
 mod phases;
 
 pub use calls::SessionText;
-pub use phases::{Phase, phases_of};
+pub use phases::{PhaseText, phases_of};

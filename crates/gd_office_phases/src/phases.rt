@@ -12,7 +12,7 @@ use std::mem;
 
 /// A phase of an office: sessions that are run, and then the round of the desk.
 #[derive(Drop)]
-pub struct Phase {
+pub struct PhaseText {
     /// The sessions, in order.
     pub sessions: Vec<SessionText>,
     /// When the desk goes round, in seconds since 1970-01-01T00:00:00Z.
@@ -23,7 +23,7 @@ pub struct Phase {
 #[tactic(auto, using(crate::proofs::Ending::joins, crate::proofs::Ending::ends))]
 fn take_row(
     alloc: Global,
-    phases: &mut Vec<Phase>,
+    phases: &mut Vec<PhaseText>,
     sessions: &mut Vec<SessionText>,
     row: OfficeRow,
     behind: &[Row],
@@ -43,14 +43,14 @@ fn take_row(
         }
         OfficeRow::Desk { moment } => {
             let sessions = mem::replace(sessions, Vec::new(alloc));
-            phases.push(Phase { sessions, moment })?;
+            phases.push(PhaseText { sessions, moment })?;
         }
     }
     Ok(())
 }
 
 /// The phases of an office's text, in order. The only error is want of memory.
-pub fn phases_of(alloc: Global, rows: &[Row]) -> Result<Vec<Phase>, AllocError>
+pub fn phases_of(alloc: Global, rows: &[Row]) -> Result<Vec<PhaseText>, AllocError>
     ensures { IfOk result (λ phases. map spec.phase phases.items ≡ spec.phases_of rows.now) }
 {
     let mut phases = Vec::new(alloc);
