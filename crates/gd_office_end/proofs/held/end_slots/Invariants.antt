@@ -1,0 +1,12 @@
+use Rattle.std.proofs.Common.{◌≡◌, ℕ, ◌<◌, ◌≤◌, length}
+use Rattle.gd_office_end.specs.Holding.{IsOf, share_at, EndFrom}
+use Rattle.gd_office_end.proofs.held.end_slots.Given as goal
+
+abbrev pub invariant-loop-at : goal.invariant-loop-at
+invariant-loop-at g l =
+    record {
+      of : IsOf l.slots l.held;
+      len : length l.ends.items ≡ l.at;
+      left : (k : ℕ) → l.at ≤ k → share_at l.held k ≡ share_at l.fn.held k;
+      ends : EndFrom (share_at l.fn.held) 0 l.ends.items;
+    }

@@ -1,0 +1,6 @@
+use Rattle.std.proofs.Common.{◌≡◌, length}
+use Rattle.gd_office_end.specs.Picked.{AreEmpty}
+use Rattle.gd_office_end.proofs.slot.lists_for.Given as goal
+
+abbrev pub invariant-loop-at : goal.invariant-loop-at
+invariant-loop-at g l = (length l.held.items ≡ l.at) × AreEmpty l.held.items

@@ -1,0 +1,67 @@
+-- What is held of the slots of an office.
+use Rattle.std.specs.Prelude.{◌≡◌, ℕ, ◌+◌, ◌<◌, ◌==◌, if◌then◌else◌, List, [], ◌∷◌, ◌++◌, length, map, get_or, Option, Some, None}
+use Rattle.std.specs.Global.{Vec}
+use Rattle.gd_office_part.specs.declared.kept.Receipt.{Receipt}
+use Rattle.gd_office_part.specs.declared.numbers.Numbers.{Numbers}
+use Rattle.gd_office_part.specs.declared.threads.SessionRows.{SessionRows}
+use Rattle.gd_office_part.specs.Sending.{lists_of}
+use Rattle.gd_office_end.specs.declared.end.End.{End}
+use Rattle.gd_office_end.specs.declared.held.Held.{Held}
+use Rattle.gd_office_end.specs.Picked.{pick}
+use Rattle.gd_office_end.specs.Ends.{EndsWith}
+
+-- What is held of a slot: what each of its sessions counted, its receipts and its number, and the receipts of the desk.
+pub record Share : Type 0 where
+  pub counts : List Numbers
+  pub lists : List (List Receipt)
+  pub numbers : List ℕ
+  pub desk : List Receipt
+
+abbrev pub nothing : Share
+nothing = record { counts = []; lists = []; numbers = []; desk = [] }
+
+abbrev pub plus : Share → Share → Share
+plus a b = record { counts = a.counts ++ b.counts; lists = a.lists ++ b.lists; numbers = a.numbers ++ b.numbers; desk = a.desk ++ b.desk }
+
+-- The items of slot k.
+abbrev pub items_at : {X : Type 0} → List (Vec X) → ℕ → List X
+items_at held k = get_or (map (λ v. v.items) held) k []
+
+abbrev pub share_at : Held → ℕ → Share
+share_at held k = record {
+  counts = map (λ s. s.numbers) (items_at held.sessions.items k);
+  lists = lists_of (items_at held.lists.items k);
+  numbers = items_at held.numbers.items k;
+  desk = items_at held.desks.items k;
+}
+
+-- It holds something of so many slots.
+abbrev pub IsOf : ℕ → Held → Type 0
+IsOf slots held =
+    (length held.sessions.items ≡ slots) × (length held.lists.items ≡ slots)
+    × (length held.numbers.items ≡ slots) × (length held.desks.items ≡ slots)
+
+-- Each of so many slots gains a share.
+abbrev pub Gains : ℕ → Held → Held → (ℕ → Share) → Type 0
+Gains slots old new more = (k : ℕ) → k < slots → share_at new k ≡ plus (share_at old k) (more k)
+
+-- The share of slot k in the sessions of a phase.
+abbrev pub of_sessions : ℕ → List SessionRows → List Numbers → List (List Receipt) → List ℕ → Share
+of_sessions k rows counts lists numbers = record { counts = pick k rows counts; lists = pick k rows lists; numbers = pick k rows numbers; desk = [] }
+
+abbrev pub receipts_of : Receipt → Option Receipt → List Receipt
+receipts_of froze None = froze ∷ []
+receipts_of froze (Some closed) = froze ∷ closed ∷ []
+
+-- The share of slot k in a desk of this slot.
+abbrev pub of_desk : ℕ → ℕ → Receipt → Option Receipt → Share
+of_desk slot k froze closed = record { counts = []; lists = []; numbers = []; desk = if slot == k then receipts_of froze closed else [] }
+
+-- How a slot ends with its share.
+abbrev pub EndsBy : Share → End → Type 0
+EndsBy share e = EndsWith share.desk share.lists share.numbers share.counts e
+
+-- The slots from n on end by their shares.
+abbrev pub EndFrom : (ℕ → Share) → ℕ → List End → Type 0
+EndFrom share n [] = Unit {0}
+EndFrom share n (e ∷ ends) = EndsBy (share n) e × EndFrom share (n + 1) ends
