@@ -17,7 +17,13 @@ abbrev key : Key
 key = record { contract = codes "INT"; «package» = codes "P"; origin = codes "R1"; dest = codes "D1" }
 
 abbrev north : Pipeline
-north = record { places = codes "A" ∷ codes "B" ∷ []; segments = codes "S2" ∷ []; tree = segment 0 1 100 ∷ []; points = []; pools = [] }
+north = record {
+  places = codes "A" ∷ codes "B" ∷ [];
+  segments = codes "S2" ∷ [];
+  tree = segment 0 1 100 ∷ [];
+  points = [];
+  pools = [];
+}
 
 abbrev south : Pipeline
 south = record {
@@ -47,7 +53,11 @@ made = record {
     slot = 1;
     party = ship;
     calls = call.Nominate 3 key 20 ∷ call.Respond 4 0 Dest 10 ∷ call.PostCapacity 5 (record { 0 = 1 }) 60 ∷ [];
-  } ∷ record { slot = 0; party = ship; calls = call.PostCapacity 7 (record { 0 = 0 }) 8 ∷ call.PostCapacity 7 (record { 0 = 1 }) 8 ∷ [] }
+  } ∷ record {
+    slot = 0;
+    party = ship;
+    calls = call.PostCapacity 7 (record { 0 = 0 }) 8 ∷ call.PostCapacity 7 (record { 0 = 1 }) 8 ∷ [];
+  }
       ∷ record { slot = 2; party = ship; calls = [] } ∷ [];
   moment = 9;
 }
