@@ -4,13 +4,20 @@ use gd_book::Book;
 use gd_calendar::{Calendar, GasDay};
 use gd_contracts::{Contract, Contracts, Service};
 use gd_lines::LineKey;
-use gd_question::{Question, QuestionBuilder};
 use gd_system::{Kind, System, SystemBuilder};
 use gd_units::{Band, CycleNo, Dth, Moment, Name, Round};
 use jiff::civil::date;
 use jiff::tz::TimeZone;
 use std::alloc::Global;
 use std::process::Abort;
+
+/// The value of a result. A fault ends the test.
+pub(crate) fn made<T, E>(rt: &impl Abort, made: Result<T, E>) -> T {
+    match made {
+        Ok(value) => value,
+        Err(_) => panic!(rt; "a fault"),
+    }
+}
 
 pub(crate) fn name(rt: &impl Abort, text: &str) -> Name {
     Name::read(text).expect(rt, "a name")
@@ -42,87 +49,92 @@ pub(crate) fn line(rt: &impl Abort, contract: &str, package: &str) -> LineKey {
     }
 }
 
-/// Adds R1 and D1, each of 1000.
-fn add_points(rt: &impl Abort, builder: &mut SystemBuilder) {
-    for (text, kind, place, operator) in [
-        ("R1", Kind::Receipt, "A", "OPR"),
-        ("D1", Kind::Delivery, "B", "OPD"),
-    ] {
-        let (place, operator) = (name(rt, place), name(rt, operator));
-        let added = builder.point(name(rt, text), kind, place, operator, dth(rt, 1000));
-        assert!(rt; added.is_ok());
-    }
-}
-
 fn add_segment(rt: &impl Abort, builder: &mut SystemBuilder) {
     let (from, to) = (name(rt, "A"), name(rt, "B"));
     let added = builder.segment(name(rt, "S1"), from, to, dth(rt, 100));
     assert!(rt; added.is_ok());
 }
 
-fn pipeline(rt: &impl Abort, alloc: Global) -> System {
-    let mut builder = SystemBuilder::new(alloc);
-    add_segment(rt, &mut builder);
-    add_points(rt, &mut builder);
-    builder.finish().ok().expect(rt, "a pipeline")
-}
-
-fn builder(rt: &impl Abort, alloc: Global, book: &str, number: u32) -> QuestionBuilder {
-    let (timely, round) = (cycle(rt, 1), round(rt, number));
-    let builder = QuestionBuilder::new(alloc, pipeline(rt, alloc), name(rt, book), timely, round);
-    builder.expect(rt, "memory")
-}
-
-fn add_line(rt: &impl Abort, builder: &mut QuestionBuilder) {
-    let added = builder.line(name(rt, "R1"), name(rt, "D1"), 4, dth(rt, 0), dth(rt, 70));
+/// Adds a point of 1000.
+fn add_point(
+    rt: &impl Abort,
+    builder: &mut SystemBuilder,
+    text: &str,
+    kind: Kind,
+    place: &str,
+    operator: &str,
+) {
+    let (place, operator) = (name(rt, place), name(rt, operator));
+    let added = builder.point(name(rt, text), kind, place, operator, dth(rt, 1000));
     assert!(rt; added.is_ok());
 }
 
-/// A question of Timely with one line of class 4, from R1 to D1, of 0 to 70.
-pub(crate) fn timely(rt: &impl Abort, alloc: Global, book: &str, number: u32) -> Question {
-    let mut builder = builder(rt, alloc, book, number);
-    add_line(rt, &mut builder);
-    builder.finish()
+fn add_elements(rt: &impl Abort, builder: &mut SystemBuilder) {
+    add_segment(rt, builder);
+    add_point(rt, builder, "R1", Kind::Receipt, "A", "OPR");
+    add_point(rt, builder, "D1", Kind::Delivery, "B", "OPD");
 }
 
-/// A firm contract FIRM and an interruptible one INT, of 100 each.
-fn add_contracts(rt: &impl Abort, contracts: &mut Contracts) {
-    let firm = Service::Firm {
+pub(crate) fn pipeline(rt: &impl Abort, alloc: Global) -> System {
+    let mut builder = SystemBuilder::new(alloc);
+    add_elements(rt, &mut builder);
+    made(rt, builder.finish())
+}
+
+/// Adds a contract of 100.
+fn add_contract(rt: &impl Abort, contracts: &mut Contracts, text: &str, service: Service) {
+    let added = contracts.add(Contract {
+        name: name(rt, text),
+        shipper: name(rt, "SHIP"),
+        quantity: dth(rt, 100),
+        service,
+    });
+    assert!(rt; added.is_ok());
+}
+
+/// From R1 to D1.
+fn firm(rt: &impl Abort) -> Service {
+    Service::Firm {
         origin: name(rt, "R1"),
         dest: name(rt, "D1"),
-    };
-    let interruptible = Service::Interruptible {
-        band: Band::new(1).expect(rt, "a band"),
-    };
-    for (text, service) in [("FIRM", firm), ("INT", interruptible)] {
-        let added = contracts.add(Contract {
-            name: name(rt, text),
-            shipper: name(rt, "SHIP"),
-            quantity: dth(rt, 100),
-            service,
-        });
-        assert!(rt; added.is_ok());
     }
 }
 
+fn interruptible(rt: &impl Abort) -> Service {
+    Service::Interruptible {
+        band: Band::new(1).expect(rt, "a band"),
+    }
+}
+
+/// A firm contract FIRM and an interruptible one INT.
 fn contracts(rt: &impl Abort, alloc: Global) -> Contracts {
     let mut contracts = Contracts::new(alloc, pipeline(rt, alloc));
-    add_contracts(rt, &mut contracts);
+    add_contract(rt, &mut contracts, "FIRM", firm(rt));
+    add_contract(rt, &mut contracts, "INT", interruptible(rt));
     contracts
 }
 
-fn calendar(rt: &impl Abort, alloc: Global) -> Calendar {
-    let day = GasDay::new(date(2026, 3, 8)).ok().expect(rt, "a gas day");
-    let zone = TimeZone::posix("CST6CDT,M3.2.0,M11.1.0");
-    let zone = zone.ok().expect(rt, "a zone");
-    Calendar::new(alloc, day, &zone)
-        .ok()
-        .expect(rt, "a calendar")
+fn gas_day(rt: &impl Abort) -> GasDay {
+    made(rt, GasDay::new(date(2026, 3, 8)))
 }
 
-/// A book with both contracts on the gas day 2026-03-08, with what is carried over from the day before.
-pub(crate) fn book(rt: &impl Abort, alloc: Global, carry: Vec<(LineKey, Dth)>) -> Book {
+fn calendar(rt: &impl Abort, alloc: Global) -> Calendar {
+    let zone = made(rt, TimeZone::posix("CST6CDT,M3.2.0,M11.1.0"));
+    made(rt, Calendar::new(alloc, gas_day(rt), &zone))
+}
+
+/// 80 of a line of FIRM in package C, the day before.
+fn carried(rt: &impl Abort, alloc: Global) -> Vec<(LineKey, Dth)> {
+    let carried = Vec::from_slice(alloc, &[(line(rt, "FIRM", "C"), dth(rt, 80))]);
+    carried.expect(rt, "memory")
+}
+
+/// A book of this name with both contracts on the gas day 2026-03-08.
+pub(crate) fn book(rt: &impl Abort, alloc: Global, text: &str) -> Book {
     let (contracts, calendar) = (contracts(rt, alloc), calendar(rt, alloc));
-    let book = Book::open(alloc, name(rt, "DEMO"), contracts, calendar, carry);
-    book.ok().expect(rt, "a book")
+    let carried = carried(rt, alloc);
+    made(
+        rt,
+        Book::open(alloc, name(rt, text), contracts, calendar, carried),
+    )
 }

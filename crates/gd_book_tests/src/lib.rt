@@ -1,25 +1,17 @@
-//! Worked days of a book by calls, and a board by itself; nothing but tests.
+//! Worked days of a book by calls; nothing but tests.
 #![tactic(auto)]
 
 #[cfg(test)]
-mod board;
+mod boards;
 #[cfg(test)]
-mod bump;
+mod bumps;
 #[cfg(test)]
 mod calls;
 #[cfg(test)]
+mod cuts;
+#[cfg(test)]
 mod day;
-#[cfg(test)]
-mod full;
-#[cfg(test)]
-mod impossible;
-#[cfg(test)]
-mod protected;
 #[cfg(test)]
 mod quantity;
 #[cfg(test)]
 mod refusals;
-#[cfg(test)]
-mod rounds;
-#[cfg(test)]
-mod shown;

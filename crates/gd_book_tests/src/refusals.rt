@@ -3,8 +3,10 @@
 //! is frozen (7), declared impossible (8) and skipped (9); Intraday 2 is frozen (10) and declared impossible (11), the line
 //! waived (12), the cycle frozen (13) and published (14).
 
-use crate::calls::cut;
-use crate::day::{at, dth, line, name, round};
+use crate::calls::{asked, cut, makes};
+use crate::cuts::CUT_DAY;
+use crate::day::{at, book, dth, line, name, round};
+use gd_board::Board;
 use gd_book::{Book, Event, Refusal};
 use gd_certificate::CutFault;
 use gd_system::Element;
@@ -40,46 +42,81 @@ const THREE: Option<Refusal> = Some(Refusal::StaleRound(3));
 const FOUR: Option<Refusal> = Some(Refusal::StaleRound(4));
 
 /// A second line of 21 under a contract of 100.
-const OF_NOMINATE: Refusals = [
+static OF_NOMINATE: Refusals = [
     None, OVER, OVER, OVER, OVER, OVER, OVER, OVER, OVER, OVER, OVER, OVER, OVER, OVER, OVER,
 ];
 
 /// A response for the first line.
-const OF_RESPOND: Refusals = [
+static OF_RESPOND: Refusals = [
     LINE, None, FROZEN, None, FROZEN, None, None, FROZEN, None, None, FROZEN, None, None, FROZEN,
     None,
 ];
 
 /// A capacity of an element that isn't there.
-const OF_POST: Refusals = [
+static OF_POST: Refusals = [
     OTHER, OTHER, FROZEN, OTHER, FROZEN, OTHER, OTHER, FROZEN, OTHER, OTHER, FROZEN, OTHER, OTHER,
     FROZEN, OTHER,
 ];
 
 /// A freeze at the last stamp.
-const OF_FREEZE: Refusals = [
+static OF_FREEZE: Refusals = [
     EARLY, EARLY, FROZEN, EARLY, FROZEN, EARLY, EARLY, FROZEN, None, EARLY, FROZEN, None, None,
     FROZEN, EARLY,
 ];
 
 /// A waiver of a line that isn't there.
-const OF_WAIVE: Refusals = [
+static OF_WAIVE: Refusals = [
     CUT, CUT, FROZEN, CUT, FROZEN, CUT, CUT, FROZEN, LINE, CUT, FROZEN, LINE, LINE, FROZEN, CUT,
 ];
 
-const OF_SKIP: Refusals = [
+static OF_SKIP: Refusals = [
     CUT, CUT, FROZEN, CUT, FROZEN, CUT, CUT, FROZEN, None, CUT, FROZEN, None, None, FROZEN, CUT,
 ];
 
 /// The certificate of round 5, which was published.
-const OF_PUBLISH: Refusals = [
+static OF_PUBLISH: Refusals = [
     OPEN, OPEN, ONE, OPEN, TWO, OPEN, OPEN, THREE, OPEN, OPEN, FOUR, OPEN, OPEN, None, OPEN,
 ];
 
 /// The cut of the rounds before, for round 5.
-const OF_DECLARE: Refusals = [
+static OF_DECLARE: Refusals = [
     OPEN, OPEN, ONE, OPEN, TWO, OPEN, OPEN, THREE, OPEN, OPEN, FOUR, OPEN, OPEN, SET, OPEN,
 ];
+
+fn of_nominate(rt: &impl Abort) -> Event {
+    Event::Nominate {
+        moment: at(rt, 0),
+        party: name(rt, "SHIP"),
+        key: line(rt, "FIRM", "Q"),
+        quantity: dth(rt, 21),
+    }
+}
+
+fn of_respond(rt: &impl Abort) -> Event {
+    Event::Respond {
+        moment: at(rt, 0),
+        party: name(rt, "OPR"),
+        line: 0,
+        end: End::Origin,
+        quantity: dth(rt, 1),
+    }
+}
+
+fn of_post(rt: &impl Abort) -> Event {
+    Event::PostCapacity {
+        moment: at(rt, 0),
+        element: Element(3),
+        capacity: dth(rt, 1),
+    }
+}
+
+fn of_declare(rt: &impl Abort, alloc: Global) -> Event {
+    Event::Declare {
+        moment: at(rt, 0),
+        round: round(rt, 5),
+        cut: cut(rt, alloc),
+    }
+}
 
 /// Compares the first refusals of an event with these.
 fn shows(rt: &impl Abort, book: &Book, event: &Event, wanted: &Refusals) {
@@ -91,49 +128,10 @@ fn shows(rt: &impl Abort, book: &Book, event: &Event, wanted: &Refusals) {
     }
 }
 
-fn of_nominate(rt: &impl Abort, book: &Book) {
-    let event = Event::Nominate {
-        moment: at(rt, 0),
-        party: name(rt, "SHIP"),
-        key: line(rt, "FIRM", "Q"),
-        quantity: dth(rt, 21),
-    };
-    shows(rt, book, &event, &OF_NOMINATE);
-}
-
-fn of_respond(rt: &impl Abort, book: &Book) {
-    let event = Event::Respond {
-        moment: at(rt, 0),
-        party: name(rt, "OPR"),
-        line: 0,
-        end: End::Origin,
-        quantity: dth(rt, 1),
-    };
-    shows(rt, book, &event, &OF_RESPOND);
-}
-
-fn of_post(rt: &impl Abort, book: &Book) {
-    let event = Event::PostCapacity {
-        moment: at(rt, 0),
-        element: Element(3),
-        capacity: dth(rt, 1),
-    };
-    shows(rt, book, &event, &OF_POST);
-}
-
-fn of_freeze(rt: &impl Abort, book: &Book) {
-    let moment = at(rt, 0);
-    shows(rt, book, &Event::Freeze { moment }, &OF_FREEZE);
-}
-
-fn of_waive(rt: &impl Abort, book: &Book) {
-    let moment = at(rt, 0);
-    shows(rt, book, &Event::Waive { moment, line: 1 }, &OF_WAIVE);
-}
-
-fn of_skip(rt: &impl Abort, book: &Book) {
-    let moment = at(rt, 0);
-    shows(rt, book, &Event::Skip { moment }, &OF_SKIP);
+/// Compares as `shows` does, and lets the event go.
+fn ends(rt: &impl Abort, book: &Book, event: Event, wanted: &Refusals) {
+    shows(rt, book, &event, wanted);
+    drop(event);
 }
 
 fn of_publish(rt: &impl Abort, book: &Book) {
@@ -141,23 +139,36 @@ fn of_publish(rt: &impl Abort, book: &Book) {
     shows(rt, book, event, &OF_PUBLISH);
 }
 
-fn of_declare(rt: &impl Abort, alloc: Global, book: &Book) {
-    let event = Event::Declare {
-        moment: at(rt, 0),
-        round: round(rt, 5),
-        cut: cut(rt, alloc),
-    };
-    shows(rt, book, &event, &OF_DECLARE);
+/// An event of each kind.
+fn of_each(rt: &impl Abort, alloc: Global, book: &Book) {
+    let moment = at(rt, 0);
+    ends(rt, book, of_nominate(rt), &OF_NOMINATE);
+    ends(rt, book, of_respond(rt), &OF_RESPOND);
+    ends(rt, book, of_post(rt), &OF_POST);
+    ends(rt, book, Event::Freeze { moment }, &OF_FREEZE);
+    ends(rt, book, Event::Waive { moment, line: 1 }, &OF_WAIVE);
+    ends(rt, book, Event::Skip { moment }, &OF_SKIP);
+    ends(rt, book, of_declare(rt, alloc), &OF_DECLARE);
+    of_publish(rt, book);
 }
 
-/// An event of each kind.
-pub(crate) fn shows_refusals(rt: &impl Abort, alloc: Global, book: &Book) {
-    of_nominate(rt, book);
-    of_respond(rt, book);
-    of_post(rt, book);
-    of_freeze(rt, book);
-    of_waive(rt, book);
-    of_skip(rt, book);
-    of_publish(rt, book);
-    of_declare(rt, alloc, book);
+#[test]
+fn cut_and_waived(rt: HostRuntime) {
+    let (mut day, other) = (
+        book(&rt, rt.alloc(), "DEMO"),
+        asked(&rt, rt.alloc(), "OTHER"),
+    );
+    let board = Board::new(rt.alloc());
+    makes(
+        &rt,
+        rt.alloc(),
+        &mut day,
+        &board,
+        &other,
+        CUT_DAY.as_slice(),
+    );
+    of_each(&rt, rt.alloc(), &day);
+    drop(board);
+    drop(other);
+    drop(day);
 }
