@@ -66,10 +66,10 @@ pub holds_nothing : (held : Held) (slots k : ℕ) → IsOf slots held → AreEmp
     → AreEmpty held.numbers.items → AreEmpty held.desks.items → k < slots → share_at held k ≡ nothing
 holds_nothing held slots k of sessions lists numbers desks below =
     share_is (share_at held k) nothing
-      (ap (map (λ (s : Session). s.numbers)) (at_empty held.sessions.items k sessions (omega (arith, below, of.0))))
-      (ap lists_of (at_empty held.lists.items k lists (omega (arith, below, of.1))))
-      (at_empty held.numbers.items k numbers (omega (arith, below, of.2)))
-      (at_empty held.desks.items k desks (omega (arith, below, of.3)))
+    (ap (map (λ (s : Session). s.numbers)) (at_empty held.sessions.items k sessions (omega (arith, below, of.0))))
+    (ap lists_of (at_empty held.lists.items k lists (omega (arith, below, of.1))))
+    (at_empty held.numbers.items k numbers (omega (arith, below, of.2)))
+    (at_empty held.desks.items k desks (omega (arith, below, of.3)))
 
 -- the sessions of a phase
 pub gains_sessions : (old : Held) (s : Vec (Vec Session)) (l : Vec (Vec (Vec Receipt))) (n : Vec (Vec ℕ))
@@ -77,42 +77,46 @@ pub gains_sessions : (old : Held) (s : Vec (Vec Session)) (l : Vec (Vec (Vec Rec
     → Grew old.sessions.items s.items (λ k. pick k rows sessions) → Grew old.lists.items l.items (λ k. pick k rows lists)
     → Grew old.numbers.items n.items (λ k. pick k rows numbers)
     → IsOf slots (record { sessions = s; lists = l; numbers = n; desks = old.desks })
-      × Gains slots old (record { sessions = s; lists = l; numbers = n; desks = old.desks })
-          (λ k. of_sessions k rows (map (λ x. x.numbers) sessions) (lists_of lists) numbers)
+    × Gains slots old (record { sessions = s; lists = l; numbers = n; desks = old.desks })
+    (λ k. of_sessions k rows (map (λ x. x.numbers) sessions) (lists_of lists) numbers)
 gains_sessions old s l n rows sessions lists numbers slots of gs gl gn =
     let counted : Session → Numbers = λ x. x.numbers in
-    let items : Vec Receipt → List Receipt = λ v. v.items in
-    ((gs.0 ∙ of.0, gl.0 ∙ of.1, gn.0 ∙ of.2, of.3), λ k below.
-      let new : Held = record { sessions = s; lists = l; numbers = n; desks = old.desks } in
-      let more : Share = of_sessions k rows (map counted sessions) (lists_of lists) numbers in
-      share_is (share_at new k) (plus (share_at old k) more)
-        (ap (map counted) (at_grew old.sessions.items s.items (λ j. pick j rows sessions) k gs (omega (arith, below, of.0)))
-        ∙ map-append counted (items_at old.sessions.items k) (pick k rows sessions)
-        ∙ ap (λ (ys : List Numbers). map counted (items_at old.sessions.items k) ++ ys) (map_pick counted k rows sessions))
-        (ap (map items) (at_grew old.lists.items l.items (λ j. pick j rows lists) k gl (omega (arith, below, of.1)))
-        ∙ map-append items (items_at old.lists.items k) (pick k rows lists)
-        ∙ ap (λ (ys : List (List Receipt)). map items (items_at old.lists.items k) ++ ys) (map_pick items k rows lists))
-        (at_grew old.numbers.items n.items (λ j. pick j rows numbers) k gn (omega (arith, below, of.2)))
-        (sym (append-nil (items_at old.desks.items k))))
+    let items : Vec Receipt → List Receipt = λ v. v.items in (
+      (gs.0 ∙ of.0, gl.0 ∙ of.1, gn.0 ∙ of.2, of.3),
+      λ k below.
+          let new : Held = record { sessions = s; lists = l; numbers = n; desks = old.desks } in
+          let more : Share = of_sessions k rows (map counted sessions) (lists_of lists) numbers in
+          share_is (share_at new k) (plus (share_at old k) more)
+          (ap (map counted) (at_grew old.sessions.items s.items (λ j. pick j rows sessions) k gs (omega (arith, below, of.0)))
+          ∙ map-append counted (items_at old.sessions.items k) (pick k rows sessions)
+          ∙ ap (λ (ys : List Numbers). map counted (items_at old.sessions.items k) ++ ys) (map_pick counted k rows sessions))
+          (ap (map items) (at_grew old.lists.items l.items (λ j. pick j rows lists) k gl (omega (arith, below, of.1)))
+          ∙ map-append items (items_at old.lists.items k) (pick k rows lists)
+          ∙ ap (λ (ys : List (List Receipt)). map items (items_at old.lists.items k) ++ ys) (map_pick items k rows lists))
+          (at_grew old.numbers.items n.items (λ j. pick j rows numbers) k gn (omega (arith, below, of.2)))
+          (sym (append-nil (items_at old.desks.items k))),
+    )
 
 -- a desk without and with a close
 desk_shares : (old : Held) (d : Vec (Vec Receipt)) (more : ℕ → List Receipt) (slots : ℕ) → IsOf slots old → Grew old.desks.items d.items more
     → IsOf slots (record { sessions = old.sessions; lists = old.lists; numbers = old.numbers; desks = d })
-      × Gains slots old (record { sessions = old.sessions; lists = old.lists; numbers = old.numbers; desks = d })
-          (λ k. record { counts = []; lists = []; numbers = []; desk = more k })
-desk_shares old d more slots of grew =
-    ((of.0, of.1, of.2, grew.0 ∙ of.3), λ k below.
+    × Gains slots old (record { sessions = old.sessions; lists = old.lists; numbers = old.numbers; desks = d })
+    (λ k. record { counts = []; lists = []; numbers = []; desk = more k })
+desk_shares old d more slots of grew = (
+  (of.0, of.1, of.2, grew.0 ∙ of.3),
+  λ k below.
       let new : Held = record { sessions = old.sessions; lists = old.lists; numbers = old.numbers; desks = d } in
       share_is (share_at new k) (plus (share_at old k) (record { counts = []; lists = []; numbers = []; desk = more k }))
-        (sym (append-nil (map (λ (s : Session). s.numbers) (items_at old.sessions.items k))))
-        (sym (append-nil (lists_of (items_at old.lists.items k))))
-        (sym (append-nil (items_at old.numbers.items k)))
-        (at_grew old.desks.items d.items more k grew (omega (arith, below, of.3))))
+      (sym (append-nil (map (λ (s : Session). s.numbers) (items_at old.sessions.items k))))
+      (sym (append-nil (lists_of (items_at old.lists.items k))))
+      (sym (append-nil (items_at old.numbers.items k)))
+      (at_grew old.desks.items d.items more k grew (omega (arith, below, of.3))),
+)
 
 pub gains_freeze : (old : Held) (d : Vec (Vec Receipt)) (slot : ℕ) (froze : Receipt) (closed : Option Receipt) (slots : ℕ) → closed ≡ None → IsOf slots old
     → Grew old.desks.items d.items (λ k. if_slot slot k froze)
     → IsOf slots (record { sessions = old.sessions; lists = old.lists; numbers = old.numbers; desks = d })
-      × Gains slots old (record { sessions = old.sessions; lists = old.lists; numbers = old.numbers; desks = d }) (λ k. of_desk slot k froze closed)
+    × Gains slots old (record { sessions = old.sessions; lists = old.lists; numbers = old.numbers; desks = d }) (λ k. of_desk slot k froze closed)
 gains_freeze old d slot froze None slots none of grew = desk_shares old d (λ k. if_slot slot k froze) slots of grew
 gains_freeze old d slot froze (Some r) slots none of grew = cc
 
@@ -124,29 +128,31 @@ both false froze closed = refl
 gains_two : (old : Held) (m d : Vec (Vec Receipt)) (slot : ℕ) (froze closed : Receipt) (slots : ℕ) → IsOf slots old
     → Grew old.desks.items m.items (λ k. if_slot slot k froze) → Grew m.items d.items (λ k. if_slot slot k closed)
     → IsOf slots (record { sessions = old.sessions; lists = old.lists; numbers = old.numbers; desks = d })
-      × Gains slots old (record { sessions = old.sessions; lists = old.lists; numbers = old.numbers; desks = d }) (λ k. of_desk slot k froze (Some closed))
+    × Gains slots old (record { sessions = old.sessions; lists = old.lists; numbers = old.numbers; desks = d }) (λ k. of_desk slot k froze (Some closed))
 gains_two old m d slot froze closed slots of first second =
-    desk_shares old d (λ k. if slot == k then froze ∷ closed ∷ [] else []) slots of
-      (second.0 ∙ first.0, λ k v below.
-        second.1 k v (omega (arith, below, first.0)) ∙ ap (λ (xs : List Receipt). xs ++ if_slot slot k closed) (first.1 k v below)
-        ∙ append_assoc (get_or old.desks.items k v).items (if_slot slot k froze) (if_slot slot k closed)
-        ∙ ap (λ (xs : List Receipt). (get_or old.desks.items k v).items ++ xs) (both (slot == k) froze closed))
+    desk_shares old d (λ k. if slot == k then froze ∷ closed ∷ [] else []) slots of (
+      second.0 ∙ first.0,
+      λ k v below.
+          second.1 k v (omega (arith, below, first.0)) ∙ ap (λ (xs : List Receipt). xs ++ if_slot slot k closed) (first.1 k v below)
+          ∙ append_assoc (get_or old.desks.items k v).items (if_slot slot k froze) (if_slot slot k closed)
+          ∙ ap (λ (xs : List Receipt). (get_or old.desks.items k v).items ++ xs) (both (slot == k) froze closed),
+    )
 
 pub gains_close : (old : Held) (m d : Vec (Vec Receipt)) (slot : ℕ) (froze r : Receipt) (closed : Option Receipt) (slots : ℕ) → closed ≡ Some r → IsOf slots old
     → Grew old.desks.items m.items (λ k. if_slot slot k froze) → Grew m.items d.items (λ k. if_slot slot k r)
     → IsOf slots (record { sessions = old.sessions; lists = old.lists; numbers = old.numbers; desks = d })
-      × Gains slots old (record { sessions = old.sessions; lists = old.lists; numbers = old.numbers; desks = d }) (λ k. of_desk slot k froze closed)
+    × Gains slots old (record { sessions = old.sessions; lists = old.lists; numbers = old.numbers; desks = d }) (λ k. of_desk slot k froze closed)
 gains_close old m d slot froze r closed slots some of first second =
     subst (λ (o : Option Receipt). IsOf slots (record { sessions = old.sessions; lists = old.lists; numbers = old.numbers; desks = d })
-      × Gains slots old (record { sessions = old.sessions; lists = old.lists; numbers = old.numbers; desks = d }) (λ k. of_desk slot k froze o))
-      (sym some) (gains_two old m d slot froze r slots of first second)
+    × Gains slots old (record { sessions = old.sessions; lists = old.lists; numbers = old.numbers; desks = d }) (λ k. of_desk slot k froze o))
+    (sym some) (gains_two old m d slot froze r slots of first second)
 
 pub ends_by : {E : Type 0} (r : Result End E) (share : Share) (desk : List Receipt) (lists : List (List Receipt)) (numbers : List ℕ) (counts : List Numbers)
     → counts ≡ share.counts → lists ≡ share.lists → numbers ≡ share.numbers → desk ≡ share.desk
     → IfOk r (EndsWith desk lists numbers counts) → IfOk r (EndsBy share)
 ends_by r share desk lists numbers counts same_counts same_lists same_numbers same_desk ends =
     subst (λ (s : Share). IfOk r (λ e. EndsWith s.desk s.lists s.numbers s.counts e))
-      (share_is (record { counts = counts; lists = lists; numbers = numbers; desk = desk }) share same_counts same_lists same_numbers same_desk) ends
+    (share_is (record { counts = counts; lists = lists; numbers = numbers; desk = desk }) share same_counts same_lists same_numbers same_desk) ends
 
 pub end_more : (share : ℕ → Share) (n m : ℕ) (ends : List End) (e : End) → EndFrom share n ends → m ≡ n + length ends → EndsBy (share m) e
     → EndFrom share n (ends ++ e ∷ [])
@@ -156,6 +162,7 @@ end_more share n m (x ∷ ends) e all is here = (all.0, end_more share (n + 1) m
 -- shares that are the same make the same ends
 pub end_same : (f g : ℕ → Share) (n : ℕ) (ends : List End) → ((k : ℕ) → n ≤ k → k < n + length ends → f k ≡ g k) → EndFrom f n ends → EndFrom g n ends
 end_same f g n [] same all = tt
-end_same f g n (e ∷ ends) same all =
-    (subst (λ (s : Share). EndsBy s e) (same n (omega arith) (omega arith)) all.0,
-      end_same f g (n + 1) ends (λ k low high. same k (omega (arith, low)) (omega (arith, high))) all.1)
+end_same f g n (e ∷ ends) same all = (
+  subst (λ (s : Share). EndsBy s e) (same n (omega arith) (omega arith)) all.0,
+  end_same f g (n + 1) ends (λ k low high. same k (omega (arith, low)) (omega (arith, high))) all.1,
+)

@@ -22,7 +22,10 @@ pub enum End {
     },
     /// The first receipt that does not fit: its list, which is 0 for the desk's and else the number of the session, and its
     /// place there, from 1.
-    Misfit { list: u64, index: u64 },
+    Misfit {
+        list: u64,
+        index: u64,
+    },
     /// So many sessions are not there to be closed. 0 stands for sums that differ from what the book gained.
     Missing(u64),
 }

@@ -97,7 +97,16 @@ fn end_at<'o, R: Wait>(
     let numbers = take_at(alloc, &mut held.numbers, at);
     let desk = take_at(alloc, &mut held.desks, at);
     let slot = at as u32 + 1;
-    end_slot(rt, alloc, office, slot, sessions, desk, lists, numbers.as_slice())
+    end_slot(
+        rt,
+        alloc,
+        office,
+        slot,
+        sessions,
+        desk,
+        lists,
+        numbers.as_slice(),
+    )
 }
 
 /// Ends so many slots in order, of which this is held. It waits for their locks. The only error is want of memory.

@@ -22,11 +22,7 @@ pub(crate) fn lists_for<T: Drop>(alloc: Global, slots: usize) -> Result<Vec<Vec<
 }
 
 /// Gives the slot at this place one item more. A slot that isn't there gets nothing.
-pub(crate) fn give<T: Drop>(
-    held: &mut Vec<Vec<T>>,
-    slot: usize,
-    item: T,
-) -> Result<(), AllocError>
+pub(crate) fn give<T: Drop>(held: &mut Vec<Vec<T>>, slot: usize, item: T) -> Result<(), AllocError>
     ensures { OnOk result
         (spec.Grew held.old.items held.new.items (λ k. spec.if_slot slot k item)) }
 {

@@ -16,7 +16,7 @@ returns-clause-ends g c =
     let numbers = took held.numbers.items at n.result (omega (arith, below, of.2)) (n.ensures.taken n.result) in
     let desk = took held.desks.items at d.result (omega (arith, below, of.3)) (d.ensures.taken d.result) in
     ends_by c.end_slot.result (share_at held at) d.result.items (lists_of l.result.items) c.as_slice.result.now (map (λ (x : Session). x.numbers) s.result.items)
-      (ap (map (λ (x : Session). x.numbers)) sessions) (ap lists_of lists) (c.as_slice.ensures.value ∙ numbers) desk c.end_slot.ensures
+    (ap (map (λ (x : Session). x.numbers)) sessions) (ap lists_of lists) (c.as_slice.ensures.value ∙ numbers) desk c.end_slot.ensures
 
 pub returns-clause-others : goal.returns-clause-others
 returns-clause-others g c k above =
@@ -24,7 +24,7 @@ returns-clause-others g c k above =
     let apart : k ≡ c.args.at → ⊥ = λ e. omega (arith, above, e) in
     let s = c.take_at-sessions in let l = c.take_at-lists in let n = c.take_at-numbers in let d = c.take_at-desk in
     share_is _ (share_at held k)
-      (ap (map (λ (x : Session). x.numbers)) (same_at held.sessions.items s.new.held.items k s.ensures.len (λ v. s.ensures.others k v apart)))
-      (ap lists_of (same_at held.lists.items l.new.held.items k l.ensures.len (λ v. l.ensures.others k v apart)))
-      (same_at held.numbers.items n.new.held.items k n.ensures.len (λ v. n.ensures.others k v apart))
-      (same_at held.desks.items d.new.held.items k d.ensures.len (λ v. d.ensures.others k v apart))
+    (ap (map (λ (x : Session). x.numbers)) (same_at held.sessions.items s.new.held.items k s.ensures.len (λ v. s.ensures.others k v apart)))
+    (ap lists_of (same_at held.lists.items l.new.held.items k l.ensures.len (λ v. l.ensures.others k v apart)))
+    (same_at held.numbers.items n.new.held.items k n.ensures.len (λ v. n.ensures.others k v apart))
+    (same_at held.desks.items d.new.held.items k d.ensures.len (λ v. d.ensures.others k v apart))

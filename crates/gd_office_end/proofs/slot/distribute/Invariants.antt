@@ -12,5 +12,5 @@ invariant-loop-item g l =
       same : length l.held.items ≡ length l.fn.held.items;
       more : (k : ℕ) (d : Vec g.row.T.Denot) → k < length l.fn.held.items
           → (get_or l.held.items k d).items ++ pick k (drop l.at l.rows) (into_iter_items l.item-iterator)
-            ≡ (get_or l.fn.held.items k d).items ++ pick k l.rows l.fn.items.items;
+          ≡ (get_or l.fn.held.items k d).items ++ pick k l.rows l.fn.items.items;
     }

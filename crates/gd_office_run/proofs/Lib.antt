@@ -1,0 +1,3 @@
+mod Opening
+mod Runs
+mod Shares

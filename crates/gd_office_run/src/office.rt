@@ -1,0 +1,173 @@
+//! A whole run.
+
+ghost use Rattle.std.specs.Prelude.{◌≡◌, ◌+◌, ◌≤◌, ◌^◌, ◌++◌, ℕ, [], true, IfOk, IfSome, OnOk, OnErr, vec_len, length as len_of};
+ghost use Rattle.std.specs.List.{list_all};
+ghost use Rattle.gd_office_end.specs.Holding.{IsOf};
+ghost use Rattle.gd_office_run.specs.Runs as spec;
+ghost use Rattle.gd_office_run.specs.Shares as shares;
+ghost use Rattle.gd_office_run.specs.Told as spec_told;
+
+use crate::fault::RunFault;
+use crate::phase::{hold, rows_of, run_phase};
+use gd_desk::Gate;
+use gd_office::Office;
+use gd_office_end::{End, Held, end_slots};
+use gd_office_part::Phase;
+use gd_replies::Reply;
+use std::alloc::{AllocError, Global};
+use std::sync::Wait;
+use std::thread::Threads;
+use std::time::Clock;
+
+/// The number of the first session behind a phase, if it is small.
+fn next_number(first: u64, phase: &Phase) -> Option<u64>
+    ensures { IfSome result (λ n. (n ≡ first + vec_len phase.now.sessions) × (n ≤ 2 ^ 62)) }
+{
+    let next = first.checked_add(phase.sessions.len() as u64)?;
+    if next <= 1 << 62 { Some(next) } else { None }
+}
+
+/// Runs a phase whose first session has this number, tells it, and holds what it gave.
+fn take_phase<'o, R: Threads + Wait + Clock + Sync, G: Gate + Sync>(
+    rt: &R,
+    alloc: Global,
+    office: &'o Office,
+    gate: &G,
+    held: &mut Held<'o>,
+    first: u64,
+    phase: &Phase,
+    rows: &mut Vec<Reply>,
+) -> Result<(), RunFault>
+    requires first { first ≤ 2 ^ 62 }
+    requires held { IsOf (len_of office.now.slots.items) held.old }
+    ensures ok { OnOk result (shares.Adds (len_of office.now.slots.items) first phase.now
+        rows.old.items held.old rows.new.items held.new) }
+    ensures err { OnErr result (rows.new.items ≡ rows.old.items) }
+{
+    let given = run_phase(rt, alloc, office, phase, gate)?;
+    let mut told = rows_of(alloc, first, &phase.moment, &given)?;
+    hold(alloc, held, first, phase, given)?;
+    rows.append(&mut told)?;
+    Ok(())
+}
+
+/// Runs phases in order. Where that fails, the rows are those of the first phases.
+fn run_phases<'o, R: Threads + Wait + Clock + Sync, G: Gate + Sync>(
+    rt: &R,
+    alloc: Global,
+    office: &'o Office,
+    phases: &[Phase],
+    gate: &G,
+    held: &mut Held<'o>,
+    rows: &mut Vec<Reply>,
+) -> Result<(), RunFault>
+    requires held { shares.Holds (len_of office.now.slots.items) held.old [] }
+    requires empty { rows.old.items ≡ [] }
+    ensures ok { OnOk result (shares.HoldsRun (len_of office.now.slots.items) phases.now
+        rows.new.items held.new) }
+    ensures err { OnErr result (spec_told.EndsEarly (len_of office.now.slots.items) phases.now
+        rows.new.items) }
+{
+    let mut first: u64 = 1;
+    for phase in phases {
+        let Some(next) = next_number(first, phase) else {
+            return Err(RunFault::TooMany);
+        };
+        take_phase(rt, alloc, office, gate, held, first, phase, rows)?;
+        first = next;
+    }
+    Ok(())
+}
+
+/// The row of the end of a slot.
+fn end_reply(slot: u64, end: End) -> Reply
+    ensures { result ≡ spec_told.end_row slot end }
+{
+    match end {
+        End::Reconciled {
+            events,
+            nominations,
+            dekatherms,
+        } => Reply::Reconciled {
+            slot,
+            events,
+            nominations,
+            dekatherms,
+        },
+        End::Misfit { list, index } => Reply::Mismatch { slot, list, index },
+        End::Missing(count) => Reply::Missing { slot, count },
+    }
+}
+
+/// The rows of the ends of the slots.
+fn ends_replies(alloc: Global, ends: &[End]) -> Result<Vec<Reply>, AllocError>
+    ensures { IfOk result (λ rows. rows.items ≡ spec_told.ends_rows 1 ends.now) }
+{
+    let mut rows = Vec::with_capacity(alloc, ends.len())?;
+    for at in 0..ends.len() {
+        rows.push(end_reply(at as u64 + 1, ends[at]))?;
+    }
+    Ok(rows)
+}
+
+/// Whether all slots are reconciled.
+fn all_reconciled(ends: &[End]) -> bool
+    ensures { result ≡ list_all spec_told.is_reconciled ends.now }
+{
+    for end in ends {
+        if !matches!(end, End::Reconciled { .. }) {
+            return false;
+        }
+    }
+    true
+}
+
+/// Ends the slots of a run that is told and held, and tells that behind it. Answers whether all slots are reconciled.
+fn end_run<'o, R: Wait>(
+    rt: &R,
+    alloc: Global,
+    office: &'o Office,
+    phases: &[Phase],
+    held: Held<'o>,
+    rows: &mut Vec<Reply>,
+) -> Result<bool, RunFault>
+    requires { shares.HoldsRun (len_of office.now.slots.items) phases.now rows.old.items held }
+    ensures ok { IfOk result (spec_told.TellsRun (len_of office.now.slots.items) phases.now
+        rows.new.items) }
+    ensures err { OnErr result (spec_told.EndsEarly (len_of office.now.slots.items) phases.now
+        rows.new.items) }
+{
+    let _ = phases;
+    let ends = end_slots(rt, alloc, office, held, office.slots().len())?;
+    let mut last = ends_replies(alloc, ends.as_slice())?;
+    rows.append(&mut last)?;
+    Ok(all_reconciled(ends.as_slice()))
+}
+
+/// Runs phases in order: in each the calls of its sessions, each session in a thread of its own, and when all have ended the
+/// round of the desks. Then it closes the sessions of each slot, and holds all receipts that were given against its book.
+/// `told`, which is empty, gets the rows that tell this: the receipts by session and the desks by slot for each phase, and
+/// then how each slot ends. Answers whether all slots are reconciled. It waits for the locks of the slots.
+///
+/// # Errors
+///
+/// `NoThread`, `TooMany` or `OutOfMemory`, by what failed first. Then `told` has the rows of the first phases, each of them
+/// whole. What was accepted stands.
+pub fn run<R: Threads + Wait + Clock + Sync, G: Gate + Sync>(
+    rt: &R,
+    alloc: Global,
+    office: &Office,
+    phases: &[Phase],
+    gate: &G,
+    told: &mut Vec<Reply>,
+) -> Result<bool, RunFault>
+    requires { told.old.items ≡ [] }
+    ensures ok { IfOk result (spec_told.TellsRun (len_of office.now.slots.items) phases.now
+        told.new.items) }
+    ensures err { OnErr result (spec_told.EndsEarly (len_of office.now.slots.items) phases.now
+        told.new.items) }
+{
+    let mut held = Held::new(alloc, office.slots().len())?;
+    run_phases(rt, alloc, office, phases, gate, &mut held, told)?;
+    end_run(rt, alloc, office, phases, held, told)
+}
