@@ -1,7 +1,8 @@
 //! `gasday`, the scheduling office of one gas pipeline: rows from standard input, rows to standard output.
 #![tactic(auto)]
 
-use gasday_part::{UsageFault, command_of, run};
+use gasday_office::run_office;
+use gasday_part::{Command, UsageFault, command_of, run};
 use std::process::ExitCode;
 use std::{env, io};
 
@@ -16,6 +17,11 @@ fn main(rt: HostRuntime) -> ExitCode {
         return ExitCode::from(2);
     };
     match command_of(rt.alloc(), words.as_slice()) {
+        Ok(Command::Office) => {
+            let mut reader = rt.reader();
+            let mut writer = io::writer(&rt);
+            ExitCode::from(run_office(&rt, rt.alloc(), &mut reader, &mut writer))
+        }
         Ok(command) => {
             let mut reader = rt.reader();
             let mut writer = io::writer(&rt);

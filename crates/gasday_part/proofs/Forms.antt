@@ -8,7 +8,7 @@ use Rattle.clap.specs.declared.error.kind.ErrorKind.TheVariants as kind
 use Rattle.gasday_part.specs.declared.command.Command.{Command}
 use Rattle.gasday_part.specs.declared.fault.UsageFault.{UsageFault}
 use Rattle.gasday_part.specs.declared.fault.UsageFault.TheVariants.{Help, Usage, OutOfMemory}
-use Rattle.gasday_part.specs.declared.command.Command.TheVariants.{CheckAllowed, CheckBest, CheckCut, Solve, Calendar, Day}
+use Rattle.gasday_part.specs.declared.command.Command.TheVariants.{CheckAllowed, CheckBest, CheckCut, Solve, Calendar, Day, Office}
 use Rattle.gasday_part.specs.Meaning.{gasday, meaning_of, arguments, forms, helps}
 use Rattle.gasday_part.specs.Told.{IsCommand, IsHelp, IsTold, TakesForms, TakesHelps}
 
@@ -86,6 +86,18 @@ pub help_of_day : (words : List Text) → arguments words ≡ codes "day" ∷ co
 unfolding clap_on_literals
 help_of_day words h = simp h
 
+pub office : (words : List Text) → arguments words ≡ codes "office" ∷ [] → takes gasday words ≡ true
+unfolding clap_on_literals
+office words h = simp h
+
+pub office_is : (words : List Text) → arguments words ≡ codes "office" ∷ [] → meaning_of words ≡ Some Office
+unfolding clap_on_literals
+office_is words h = simp h
+
+pub help_of_office : (words : List Text) → arguments words ≡ codes "office" ∷ codes "--help" ∷ [] → fault_of gasday words ≡ kind.DisplayHelp ∷ []
+unfolding clap_on_literals
+help_of_office words h = simp h
+
 pub help : (words : List Text) → arguments words ≡ codes "--help" ∷ [] → fault_of gasday words ≡ kind.DisplayHelp ∷ []
 unfolding clap_on_literals
 help words h = simp h
@@ -131,7 +143,8 @@ takes_forms words r by =
     (All-cons P _ (drop 5 forms) (λ h. is Solve (solve words h) (solve_is words h))
     (All-cons P _ (drop 6 forms) (λ h. is Calendar (calendar words h) (calendar_is words h))
     (All-cons P _ (drop 7 forms) (λ h. is Day (day words h) (day_is words h))
-    (All-nil P)))))))
+    (All-cons P _ (drop 8 forms) (λ h. is Office (office words h) (office_is words h))
+    (All-nil P))))))))
 
 -- words of each form that asks for help are answered by help
 pub takes_helps : (words : List Text) (r : Result Command UsageFault) → IsClaps words r → TakesHelps words r
@@ -143,4 +156,5 @@ takes_helps words r by =
     (All-cons P _ (drop 3 helps) (λ h. is (help_of_solve words h))
     (All-cons P _ (drop 4 helps) (λ h. is (help_of_calendar words h))
     (All-cons P _ (drop 5 helps) (λ h. is (help_of_day words h))
-    (All-nil P)))))
+    (All-cons P _ (drop 6 helps) (λ h. is (help_of_office words h))
+    (All-nil P))))))

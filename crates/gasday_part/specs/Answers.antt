@@ -209,8 +209,9 @@ form_of command.CheckCut = form.CheckCut
 form_of command.Solve = form.Solve
 form_of command.Calendar = form.Calendar
 form_of command.Day = form.Day
+form_of command.Office = form.Office
 
--- what a command answers to the rows of its text
+-- what a command answers to the rows of its text; what an office answers is said where it is run
 abbrev pub AnswersRows : Command → List Row → Told → Type 0
 AnswersRows command.CheckAllowed rows a = ChecksAsked (asked_of rows) a
 AnswersRows command.CheckBest rows a = ChecksBest rows (asked_of rows) a
@@ -218,22 +219,30 @@ AnswersRows command.CheckCut rows a = ChecksCut rows (question_of rows) a
 AnswersRows command.Solve rows a = SolvesAsked (question_of rows) a
 AnswersRows command.Calendar rows a = TellsCalendar (day_of rows) a
 AnswersRows command.Day rows a = TellsDay rows (opened_of rows) a
+AnswersRows command.Office rows a = ⊥
 
 -- the rows are answered, or the first fault is told
-abbrev pub AnswersText : Command → Result (List Row) RowFault → Told → Type 0
-AnswersText k (Ok rows) a = AnswersRows k rows a
-AnswersText k (Err f) a = a ≡ fault_answer (told_at f)
+abbrev pub AnswersText : (List Row → Told → Type 0) → Result (List Row) RowFault → Told → Type 0
+AnswersText answers (Ok rows) a = answers rows a
+AnswersText answers (Err f) a = a ≡ fault_answer (told_at f)
 
--- What a command answers to a text in memory: what its rows say, where it is within its limits, or that it is too long.
-abbrev pub AnswersBytes : Command → List ℕ → Told → Type 0
-AnswersBytes k text a =
-    (IsWithin text × AnswersText k (rows_of (form_of k) text) a)
+-- What is answered to a text of this form in memory, where rows are answered so: what its rows say, where it is within its
+-- limits, or that it is too long.
+abbrev pub BytesAnswered : Form → (List Row → Told → Type 0) → List ℕ → Told → Type 0
+BytesAnswered form answers text a =
+    (IsWithin text × AnswersText answers (rows_of form text) a)
     ⊎ (IsTooLong text × (a ≡ fault_answer fault.TooLong))
 
--- What a command may answer to a text: what its rows say, where it is within its limits; that it is too long, where it is;
--- or that it could not be read.
-abbrev pub MayAnswer : Command → List ℕ → Told → Type 0
-MayAnswer k text a =
-    (IsWithin text × AnswersText k (rows_of (form_of k) text) a)
+abbrev pub AnswersBytes : Command → List ℕ → Told → Type 0
+AnswersBytes k text a = BytesAnswered (form_of k) (AnswersRows k) text a
+
+-- What may be answered to a text of this form, where rows are answered so: what its rows say, where it is within its limits;
+-- that it is too long, where it is; or that it could not be read.
+abbrev pub MayBeAnswered : Form → (List Row → Told → Type 0) → List ℕ → Told → Type 0
+MayBeAnswered form answers text a =
+    (IsWithin text × AnswersText answers (rows_of form text) a)
     ⊎ ((HasManyBytes text ⊎ HasManyRows text) × (a ≡ fault_answer fault.TooLong))
     ⊎ (a ≡ fault_answer fault.ReadFailed)
+
+abbrev pub MayAnswer : Command → List ℕ → Told → Type 0
+MayAnswer k text a = MayBeAnswered (form_of k) (AnswersRows k) text a

@@ -2,7 +2,7 @@
 use Rattle.std.specs.Prelude.{true, List, [], ◌∷◌, Option, Some, None, drop, codes, if◌then◌else◌}
 use Rattle.std.specs.Str.{bytes_eq}
 use Rattle.gasday_part.specs.declared.command.Command.{Command}
-use Rattle.gasday_part.specs.declared.command.Command.TheVariants.{CheckAllowed, CheckBest, CheckCut, Solve, Calendar, Day}
+use Rattle.gasday_part.specs.declared.command.Command.TheVariants.{CheckAllowed, CheckBest, CheckCut, Solve, Calendar, Day, Office}
 use Rattle.clap.specs.Words.{App, Row, Rule, Text, first_of, new_app, new_rule, subcommand_of, with_rule, with_subcommand}
 
 -- ---- the command line
@@ -24,12 +24,17 @@ calendar = new_app (codes "calendar")
 abbrev pub day : App
 day = new_app (codes "day")
 
+abbrev pub office : App
+office = new_app (codes "office")
+
 abbrev pub bare : App
 bare = new_app (codes "gasday")
 
 -- the program's command line
 abbrev pub gasday : App
-gasday = with_subcommand (with_subcommand (with_subcommand (with_subcommand bare check.top) solve.top) calendar.top) day.top
+gasday =
+    with_subcommand (with_subcommand (with_subcommand (with_subcommand (with_subcommand bare check.top) solve.top) calendar.top) day.top)
+    office.top
 
 -- ---- the meaning of words
 
@@ -49,6 +54,7 @@ command_from name what =
     else if bytes_eq name (codes "solve") then Some Solve
     else if bytes_eq name (codes "calendar") then Some Calendar
     else if bytes_eq name (codes "day") then Some Day
+    else if bytes_eq name (codes "office") then Some Office
     else None
 
 -- the command of the subcommand that was met: with none it is `check allowed`
@@ -74,6 +80,7 @@ forms =
     ∷ (codes "solve" ∷ [], Solve)
     ∷ (codes "calendar" ∷ [], Calendar)
     ∷ (codes "day" ∷ [], Day)
+    ∷ (codes "office" ∷ [], Office)
     ∷ []
 
 -- the forms that ask for help
@@ -84,4 +91,5 @@ helps =
     ∷ (codes "solve" ∷ codes "--help" ∷ [])
     ∷ (codes "calendar" ∷ codes "--help" ∷ [])
     ∷ (codes "day" ∷ codes "--help" ∷ [])
+    ∷ (codes "office" ∷ codes "--help" ∷ [])
     ∷ []

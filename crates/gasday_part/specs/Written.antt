@@ -14,6 +14,10 @@ Written old new status a =
     ⊎ ((n m : ℕ) × Appends old new (lines_of (take n a.replies) ++ take m (lines_of (no_memory ∷ []))) × (status ≡ 2))
     ⊎ ((m : ℕ) × Appends old new (take m (lines_of a.replies)) × (status ≡ 2))
 
+-- What is written to a text that may be answered so: an answer to it, and nothing else.
+abbrev pub WritesAnswer : (List ℕ → Told → Type 0) → List ℕ → Option (List ℕ) → Option (List ℕ) → ℕ → Type 0
+WritesAnswer may text old new status = (a : Told) × may text a × Written old new status a
+
 -- what a run of a command over a text writes: an answer to it, and nothing else
 abbrev pub Answers : Command → List ℕ → Option (List ℕ) → Option (List ℕ) → ℕ → Type 0
-Answers command text old new status = (a : Told) × MayAnswer command text a × Written old new status a
+Answers command text old new status = WritesAnswer (MayAnswer command) text old new status

@@ -29,7 +29,7 @@ pub struct Answer {
 
 impl Answer {
     /// All rows of an answer.
-    pub(crate) fn whole(replies: Vec<Reply>, status: u8) -> Answer
+    pub fn whole(replies: Vec<Reply>, status: u8) -> Answer
         ensures { answer_seen result ≡ record { replies = replies.items; status = status } }
     {
         Answer {
@@ -41,7 +41,7 @@ impl Answer {
 }
 
 /// An answer of one row.
-pub(crate) fn of_one(alloc: Global, reply: Reply, status: u8) -> Result<Answer, AllocError>
+pub fn of_one(alloc: Global, reply: Reply, status: u8) -> Result<Answer, AllocError>
     ensures { IfOk result (λ a. answer_seen a ≡ record { replies = reply ∷ []; status = status }) }
 {
     let mut replies = Vec::new(alloc);
@@ -50,7 +50,7 @@ pub(crate) fn of_one(alloc: Global, reply: Reply, status: u8) -> Result<Answer, 
 }
 
 /// The answer to a text that could not be read, or whose rows were refused. Want of memory is handed on as such.
-pub(crate) fn of_fault(alloc: Global, fault: TextFault) -> Result<Answer, AllocError>
+pub fn of_fault(alloc: Global, fault: TextFault) -> Result<Answer, AllocError>
     ensures { IfOk result (λ a. (fault ≢ OutOfMemory) × (answer_seen a ≡ spec.fault_answer fault)) }
 {
     if matches!(fault, TextFault::OutOfMemory) {
@@ -93,6 +93,7 @@ fn answer_to_rows(
     command: Command,
     rows: &[Row],
 ) -> Result<Answer, AllocError>
+    requires { command ≢ Command.Office }
     ensures { IfOk result (λ a. spec.AnswersRows command rows.now (answer_seen a)) }
 {
     match command {
@@ -102,18 +103,20 @@ fn answer_to_rows(
         Command::Solve => tell_solved(alloc, rows),
         Command::Calendar => tell_calendar(alloc, rows),
         Command::Day => tell_day(rt, alloc, rows),
+        Command::Office => unreachable!(),
     }
 }
 
 /// What a command answers to the bytes of a text. The only error is want of memory.
 ///
-/// This is all that a command does between reading and printing.
+/// This is all that a command does between reading and printing. It asks for a command other than `office`.
 pub fn answer_of(
     rt: &(impl Threads + Sync),
     alloc: Global,
     command: Command,
     text: &[u8],
 ) -> Result<Answer, AllocError>
+    requires { command ≢ Command.Office }
     ensures { IfOk result (λ a. spec.AnswersBytes command text.now (answer_seen a)) }
 {
     match rows_in(alloc, command.form(), text) {
@@ -129,6 +132,7 @@ pub(crate) fn answer_to<R: Read>(
     command: Command,
     reader: &mut R,
 ) -> Result<Answer, AllocError>
+    requires { command ≢ Command.Office }
     ensures { IfSome (R.remaining reader.old) (λ text. IfOk result
         (λ a. spec.MayAnswer command text (answer_seen a))) }
 {

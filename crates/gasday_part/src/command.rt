@@ -23,6 +23,8 @@ pub enum Command {
     Calendar,
     /// Makes the calls of a gas day on its book, and tells what each gives.
     Day,
+    /// Runs an office of several gas days, with sessions and desks in threads, and holds all receipts against its books.
+    Office,
 }
 
 impl Command {
@@ -37,6 +39,7 @@ impl Command {
             Command::Solve => Form::Solve,
             Command::Calendar => Form::Calendar,
             Command::Day => Form::Day,
+            Command::Office => Form::Office,
         }
     }
 }
@@ -63,6 +66,7 @@ fn command_from(name: &str, what: Option<&str>) -> Option<Command>
         "solve" => Some(Command::Solve),
         "calendar" => Some(Command::Calendar),
         "day" => Some(Command::Day),
+        "office" => Some(Command::Office),
         _ => None,
     }
 }

@@ -15,7 +15,7 @@ use std::alloc::{AllocError, Global};
 
 /// Why a date has no calendar in a zone.
 #[derive(Clone, Copy, Debug, PartialEq, Eq, Drop)]
-pub(crate) enum DayFault {
+pub enum DayFault {
     /// The date is none of the gas days that there are.
     OutOfRange,
     /// The zone is no POSIX rule, or it gives the gas day no calendar.
@@ -24,12 +24,21 @@ pub(crate) enum DayFault {
     OutOfMemory,
 }
 
+impl From<AllocError> for DayFault {
+    fn from(_e: AllocError) -> DayFault
+        ensures { result ≡ DayFault.OutOfMemory }
+    {
+        DayFault::OutOfMemory
+    }
+}
+
 /// The calendar of the gas day of a date, in the zone that a text gives.
-pub(crate) fn calendar_of(
-    alloc: Global,
-    date: CivilDate,
-    zone: &ZoneText,
-) -> Result<Calendar, DayFault>
+///
+/// # Errors
+///
+/// `OutOfRange` for a date that is no gas day, `BadZone` for a zone that is no POSIX rule or gives the day no calendar, and else
+/// `OutOfMemory`.
+pub fn calendar_of(alloc: Global, date: CivilDate, zone: &ZoneText) -> Result<Calendar, DayFault>
     ensures ok { IfOk result (λ calendar. spec.IsCalendarIn date zone.now calendar) }
     ensures err { IfErr result (spec.ExplainsDay date zone.now) }
 {
@@ -47,7 +56,7 @@ pub(crate) fn calendar_of(
 }
 
 /// The answer to a date that has no calendar. Want of memory is handed on as such.
-pub(crate) fn of_no_calendar(alloc: Global, fault: DayFault) -> Result<Answer, AllocError>
+pub fn of_no_calendar(alloc: Global, fault: DayFault) -> Result<Answer, AllocError>
     ensures { IfOk result (λ a. (fault ≢ DayFault.OutOfMemory)
         × (answer_seen a ≡ spec.refused (spec.no_calendar fault))) }
 {

@@ -17,8 +17,9 @@ mod line;
 mod solve;
 mod words;
 
-pub use answer::{Answer, answer_of};
+pub use answer::{Answer, answer_of, of_fault, of_one};
 pub use command::Command;
-pub use engine::run;
+pub use day::{DayFault, calendar_of, of_no_calendar};
+pub use engine::{run, write_answer};
 pub use fault::UsageFault;
 pub use words::command_of;

@@ -20,9 +20,9 @@ Example:
 
 Exit status:
   0  the answer is good
-  1  a schedule, a price or a cut is broken, no schedule is allowed, or a gas day
-     has no calendar
-  2  a fault of the command line, the input, the output or the memory";
+  1  a schedule, a price or a cut is broken, no schedule is allowed, a gas day has
+     no calendar, or an office's receipts don't fit its books
+  2  a fault of the command line, the input, the output, the memory or the threads";
 
 const ABOUT_CHECK: &str =
     "Tells whether a schedule is allowed or best, or that none can be: 'check allowed', 'check best', 'check cut'";
@@ -137,6 +137,38 @@ fn day<'a>(alloc: Global) -> CommandLine<'a>
         .after_help(AFTER_HELP_OF_DAY)
 }
 
+const ABOUT_OFFICE: &str =
+    "Runs an office of several gas days, with sessions and desks in threads, and reconciles all receipts";
+
+const AFTER_HELP_OF_OFFICE: &str =
+    "It reads blocks of rows segment, point, pool, contract, day and carry, each the book of a slot, numbered
+from 1; and then phases: rows
+  session,SLOT,PARTY
+each with the nominate, respond and post rows of that party behind it, and a row
+  desk,MOMENT
+that lets all sessions before it make their calls, each in a thread of its own, and then each slot's desk
+freeze, solve, and publish or declare. For each phase it prints, by session (numbered over the whole text),
+  receipt,SESSION,accepted,NUMBER,CYCLE,LINE
+  receipt,SESSION,done,NUMBER
+  receipt,SESSION,refused,LENGTH,N,NAME
+and then, by slot, 'slot,K' and what its desk was answered, as 'day' prints it. At the end, by slot,
+  reconciled,K,EVENTS,COUNT,QUANTITY
+where all receipts fit the book's one history of so many events: so many nominations were accepted, of
+that quantity together; or 'mismatch' with the first receipt that does not fit.
+
+Example:
+  gasday office < examples/office/two-books.csv";
+
+/// `office`, which takes no words.
+fn office<'a>(alloc: Global) -> CommandLine<'a>
+    ensures app { app_of result ≡ spec.office }
+    ensures local { (out-Command result).has_globals ≡ false }
+{
+    CommandLine::new(alloc, "office")
+        .about(ABOUT_OFFICE)
+        .after_help(AFTER_HELP_OF_OFFICE)
+}
+
 /// The program's name, before it has commands.
 fn bare<'a>(alloc: Global) -> CommandLine<'a>
     ensures { app_of result ≡ spec.bare }
@@ -153,5 +185,6 @@ pub(crate) fn gasday<'a>(alloc: Global) -> Result<CommandLine<'a>, AllocError>
     let with_check = bare(alloc).subcommand(check(alloc)?)?;
     let with_solve = with_check.subcommand(solve(alloc))?;
     let with_calendar = with_solve.subcommand(calendar(alloc))?;
-    with_calendar.subcommand(day(alloc))
+    let with_day = with_calendar.subcommand(day(alloc))?;
+    with_day.subcommand(office(alloc))
 }

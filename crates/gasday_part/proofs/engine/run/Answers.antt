@@ -1,7 +1,8 @@
-use Rattle.gasday_part.proofs.Writing.{told_none}
+use Rattle.gasday_part.specs.Answers.{AnswersRows, form_of}
+use Rattle.gasday_part.proofs.Writing.{answers}
 use Rattle.gasday_part.proofs.engine.run.Goals as goal
 
-pub returns-in-Err : goal.returns-in-Err
-returns-in-Err g c =
-    let some = c.tell_no_memory.ensures.front in
-    rw c.tell_no_memory.ensures.status (told_none c.args.command _ _ _ some.0 some.2)
+pub returns : goal.returns
+returns g c =
+    let k = c.args.command in
+    answers (form_of k) (AnswersRows k) _ _ _ _ c.answer_to-answer.result c.answer_to-answer.ensures c.write_answer.ensures

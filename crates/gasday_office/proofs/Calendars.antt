@@ -1,0 +1,56 @@
+-- The calendars of gas days, one after the other.
+use Rattle.std.proofs.Common.{◌≡◌, ◌∙◌, ℕ, ◌+◌, ◌<◌, zero, suc, List, [], ◌∷◌, ◌++◌, length, take, get_or, map, Some, option_map, Result, Ok, Err, IfOk, refl, sym, ap, subst, inl, inr, arith}
+use Rattle.std.specs.List.{All, slice_get}
+use Rattle.std.proofs.lemmas.List.{map-append, take_more, take-map, length-map}
+use Rattle.std.proofs.lemmas.List.Elements.{All-push}
+use Rattle.std.proofs.lemmas.Option.{slice_get-map}
+use Rattle.gd_day.specs.Opened.{Opened}
+use Rattle.gd_day.specs.declared.text.DayText.{DayText}
+use Rattle.gd_office_calls.specs.Calls.{seen_phase, asked_phase, pipelines}
+use Rattle.gd_office_days.specs.Days.{opened}
+use Rattle.gd_office_phases.specs.Phases.{Round, phases_of}
+use Rattle.gd_office_part.specs.declared.threads.Phase.{Phase}
+use Rattle.gd_system.specs.Pipeline.{Pipeline}
+use Rattle.gd_text_part.specs.declared.row.Row.{Row}
+use Rattle.gasday_part.specs.declared.answer.Answer.{Answer}
+use Rattle.gasday_part.specs.AnswerSeen.{answer_seen}
+use Rattle.gasday_part.specs.Answers.{ExplainsDay}
+use Rattle.gasday_part.specs.declared.day.DayFault.{DayFault}
+use Rattle.gasday_office.specs.Offices.{HasCalendar, LacksCalendar, TellsPhases, TellsDays}
+
+there : (days : List DayText) (i : ℕ) (d : DayText) → i < length days → d ≡ get_or days i d → slice_get days i ≡ Some d
+there [] i d below is = elim below [ ]
+there (x ∷ days) zero d below is = ap (λ (y : DayText). Some y) (sym is)
+there (x ∷ days) (suc i) d below is = let rest : i < length days = omega (arith, below) in there days i d rest is
+
+-- this day is the first that has no calendar
+pub lacks_at : (days : List DayText) (i : ℕ) (d : DayText) (f : DayFault) → i < length days → d ≡ get_or days i d
+    → All HasCalendar (map opened (take i days)) → ExplainsDay d.date d.zone f → LacksCalendar (map opened days) f
+lacks_at days i d f below is before why =
+    inr (i, opened d, slice_get-map opened days i ∙ ap (option_map opened) (there days i d below is),
+      subst (λ (l : List Opened). All HasCalendar l) (sym (take-map opened i days)) before, why)
+
+-- one day more has a calendar
+pub calendars_more : (days : List DayText) (i : ℕ) (d : DayText) → i < length days → d ≡ get_or days i d
+    → All HasCalendar (map opened (take i days)) → HasCalendar (opened d) → All HasCalendar (map opened (take (i + 1) days))
+calendars_more days i d below is before here =
+    let more : take (i + 1) days ≡ take i days ++ d ∷ [] = take_more days i d below ∙ ap (λ (x : DayText). take i days ++ x ∷ []) (sym is) in
+    subst (λ (l : List Opened). All HasCalendar l) (sym (ap (map opened) more ∙ map-append opened (take i days) (d ∷ [])))
+      (All-push HasCalendar (map opened (take i days)) (opened d) before here)
+
+-- the pipelines of days, which are those of what they are opened with
+pub pipelines_are : (days : List DayText) → map (λ d. d.contracts.pipeline) days ≡ map (λ o. o.held.pipeline) (map opened days)
+pipelines_are [] = refl
+pipelines_are (d ∷ days) = ap (λ (ps : List Pipeline). d.contracts.pipeline ∷ ps) (pipelines_are days)
+
+-- what a run of the phases tells, by other names of the slots and the pipelines
+pub tells_days : {E : Type 0} (r : Result Answer E) (days : List DayText) (slots : ℕ) (texts : List Round) (phases : List Phase) (rows : List Row)
+    → All HasCalendar (map opened days) → texts ≡ phases_of rows
+    → map seen_phase phases ≡ map (asked_phase (pipelines days)) texts → slots ≡ length days
+    → IfOk r (λ a. TellsPhases slots phases (answer_seen a)) → IfOk r (λ a. TellsDays rows (map opened days) (answer_seen a))
+tells_days (Err e) days slots texts phases rows calendars read asked many tells = tt
+tells_days (Ok a) days slots texts phases rows calendars read asked many tells =
+    let same : map seen_phase phases ≡ map (asked_phase (map (λ o. o.held.pipeline) (map opened days))) (phases_of rows) =
+    asked ∙ ap (map (asked_phase (pipelines days))) read ∙ ap (λ (ps : List Pipeline). map (asked_phase ps) (phases_of rows)) (pipelines_are days) in
+    let long : slots ≡ length (map opened days) = many ∙ sym (length-map days opened) in
+    inl (calendars, (phases, same, subst (λ (n : ℕ). TellsPhases n phases (answer_seen a)) long tells))

@@ -1,0 +1,19 @@
+use Rattle.std.proofs.Common.{◌≡◌, ◌∙◌, List, length, vec_len, map, inr, rules}
+use Rattle.std.proofs.lemmas.Result.{IfOk-weaker}
+use Rattle.gd_office_phases.specs.Phases.{phase}
+use Rattle.gasday_office.proofs.Calendars.{tells_days}
+use Rattle.gasday_office.proofs.answer.tell_days.Goals as goal
+
+pub returns-in-Err : goal.returns-in-Err
+returns-in-Err g c =
+    let lacks = rw c.as_slice.ensures.value at c.in-Err.ensures.first in
+    IfOk-weaker c.of_no_calendar.result _ _ (λ a t. inr (c.in-Err.fault, t.0, lacks, t.1)) c.of_no_calendar.ensures
+
+pub returns : goal.returns
+returns g c =
+    let days = c.args.days.items in
+    let calendars = rw c.as_slice.ensures.value at c.in-Ok.ensures.all in
+    let asked = rw (c.as_slice-2.ensures.value, c.as_slice-3.ensures.value) at c.in_ok-phases.ensures in
+    let many : vec_len c.in_ok-books.books ≡ length c.args.days.items = let b = c.in_ok-books.ensures in search rules in
+    tells_days c.tell_books.result days (vec_len c.in_ok-books.books) (map phase c.in_ok-texts.texts.items) c.in_ok-phases.phases.items c.args.rows.now
+      calendars c.in_ok-texts.ensures asked many (rw c.as_slice-4.ensures.value at c.tell_books.ensures)

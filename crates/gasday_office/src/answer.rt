@@ -1,0 +1,145 @@
+//! What the command answers.
+
+ghost use Rattle.std.specs.Prelude.{◌≡◌, ◌++◌, ◌∷◌, [], IfOk, IfSome, Ok, map, vec_len, length as len_of};
+ghost use Rattle.gd_office_days.specs.Days.{days_of as days_by, opened};
+ghost use Rattle.gd_text_part.specs.declared.kind.Form.TheVariants as form;
+ghost use Rattle.gasday_part.specs.Answers.{BytesAnswered, MayBeAnswered};
+ghost use Rattle.gasday_part.specs.AnswerSeen.{answer_seen};
+ghost use Rattle.gasday_office.specs.Offices as spec;
+
+use crate::books::{books_of, calendars_of};
+use gasday_part::{Answer, of_fault, of_no_calendar};
+use gd_book::Book;
+use gd_day::DayText;
+use gd_desk::Open;
+use gd_office::Office;
+use gd_office_calls::calls_in;
+use gd_office_days::days_of;
+use gd_office_part::Phase;
+use gd_office_phases::phases_of;
+use gd_office_run::{RunFault, run};
+use gd_replies::Reply;
+use gd_text_part::{Form, Row, read_bytes, rows_in};
+use std::alloc::{AllocError, Global};
+use std::io::Read;
+use std::sync::Wait;
+use std::thread::Threads;
+use std::time::Clock;
+
+/// An answer that ends early with this row behind the others, or, where there is no memory for it, with that.
+fn ended(replies: Vec<Reply>, last: Reply) -> Answer
+    requires { spec.EndsRun last }
+    ensures { (row : Reply) × spec.EndsRun row × (answer_seen result
+        ≡ record { replies = replies.items ++ row ∷ []; status = 2 }) }
+{
+    let mut replies = replies;
+    match replies.push(last) {
+        Ok(()) => Answer::whole(replies, 2),
+        Err(_) => Answer {
+            replies,
+            status: 2,
+            short: true,
+        },
+    }
+}
+
+/// What a run of these phases in an office tells.
+fn tell_run<R: Threads + Wait + Clock + Sync>(
+    rt: &R,
+    alloc: Global,
+    office: &Office,
+    phases: &[Phase],
+) -> Answer
+    ensures { spec.TellsPhases (len_of office.now.slots.items) phases.now (answer_seen result) }
+{
+    let mut replies = Vec::new(alloc);
+    match run(rt, alloc, office, phases, &Open, &mut replies) {
+        Ok(true) => Answer::whole(replies, 0),
+        Ok(false) => Answer::whole(replies, 1),
+        Err(RunFault::NoThread) => ended(replies, Reply::NoThread),
+        Err(RunFault::TooMany) => ended(replies, Reply::TooMany),
+        Err(RunFault::OutOfMemory) => Answer {
+            replies,
+            status: 2,
+            short: true,
+        },
+    }
+}
+
+/// What a run of these phases in an office of these books tells.
+fn tell_books<R: Threads + Wait + Clock + Sync>(
+    rt: &R,
+    alloc: Global,
+    books: Vec<Book>,
+    phases: &[Phase],
+) -> Result<Answer, AllocError>
+    ensures { IfOk result (λ a. spec.TellsPhases (vec_len books) phases.now (answer_seen a)) }
+{
+    match Office::new(alloc, books) {
+        Ok(office) => Ok(tell_run(rt, alloc, &office, phases)),
+        // A text that was read has at most 64 books, each with a name of its own, so that nothing but memory can be wanting.
+        Err(_) => Err(AllocError),
+    }
+}
+
+/// What a run of the phases that the rows ask for tells, with a book for each of these gas days.
+fn tell_days<R: Threads + Wait + Clock + Sync>(
+    rt: &R,
+    alloc: Global,
+    days: Vec<DayText>,
+    rows: &[Row],
+) -> Result<Answer, AllocError>
+    ensures { IfOk result (λ a. spec.TellsDays rows.now (map opened days.items) (answer_seen a)) }
+{
+    let calendars = match calendars_of(alloc, days.as_slice()) {
+        Ok(calendars) => calendars,
+        Err(fault) => return of_no_calendar(alloc, fault),
+    };
+    let texts = phases_of(alloc, rows)?;
+    let phases = calls_in(alloc, days.as_slice(), texts.as_slice())?;
+    let books = books_of(alloc, days, calendars)?;
+    tell_books(rt, alloc, books, phases.as_slice())
+}
+
+/// What the rows of an office's text are answered.
+fn tell_office<R: Threads + Wait + Clock + Sync>(
+    rt: &R,
+    alloc: Global,
+    rows: &[Row],
+) -> Result<Answer, AllocError>
+    ensures { IfOk result (λ a. spec.AnswersOffice rows.now (answer_seen a)) }
+{
+    match days_of(alloc, rows) {
+        Ok(days) => tell_days(rt, alloc, days, rows),
+        Err(fault) => of_fault(alloc, fault),
+    }
+}
+
+/// What the bytes of an office's text are answered. The only error is want of memory.
+fn answer_of<R: Threads + Wait + Clock + Sync>(
+    rt: &R,
+    alloc: Global,
+    text: &[u8],
+) -> Result<Answer, AllocError>
+    ensures { IfOk result (λ a. BytesAnswered form.Office spec.AnswersOffice text.now (answer_seen a)) }
+{
+    match rows_in(alloc, Form::Office, text) {
+        Ok(rows) => tell_office(rt, alloc, rows.as_slice()),
+        Err(fault) => of_fault(alloc, fault),
+    }
+}
+
+/// What all that a reader has left is answered: its bytes, or the fault of reading them.
+pub(crate) fn answer_to<T: Threads + Wait + Clock + Sync, R: Read>(
+    rt: &T,
+    alloc: Global,
+    reader: &mut R,
+) -> Result<Answer, AllocError>
+    ensures { IfSome (R.remaining reader.old) (λ text. IfOk result
+        (λ a. MayBeAnswered form.Office spec.AnswersOffice text (answer_seen a))) }
+{
+    match read_bytes(alloc, reader) {
+        Ok(text) => answer_of(rt, alloc, text.as_slice()),
+        Err(fault) => of_fault(alloc, fault),
+    }
+}
