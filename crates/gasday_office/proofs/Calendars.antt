@@ -27,8 +27,13 @@ there (x ∷ days) (suc i) d below is = let rest : i < length days = omega (arit
 pub lacks_at : (days : List DayText) (i : ℕ) (d : DayText) (f : DayFault) → i < length days → d ≡ get_or days i d
     → All HasCalendar (map opened (take i days)) → ExplainsDay d.date d.zone f → LacksCalendar (map opened days) f
 lacks_at days i d f below is before why =
-    inr (i, opened d, slice_get-map opened days i ∙ ap (option_map opened) (there days i d below is),
-      subst (λ (l : List Opened). All HasCalendar l) (sym (take-map opened i days)) before, why)
+    inr (
+      i,
+      opened d,
+      slice_get-map opened days i ∙ ap (option_map opened) (there days i d below is),
+      subst (λ (l : List Opened). All HasCalendar l) (sym (take-map opened i days)) before,
+      why,
+    )
 
 -- one day more has a calendar
 pub calendars_more : (days : List DayText) (i : ℕ) (d : DayText) → i < length days → d ≡ get_or days i d
@@ -36,7 +41,7 @@ pub calendars_more : (days : List DayText) (i : ℕ) (d : DayText) → i < lengt
 calendars_more days i d below is before here =
     let more : take (i + 1) days ≡ take i days ++ d ∷ [] = take_more days i d below ∙ ap (λ (x : DayText). take i days ++ x ∷ []) (sym is) in
     subst (λ (l : List Opened). All HasCalendar l) (sym (ap (map opened) more ∙ map-append opened (take i days) (d ∷ [])))
-      (All-push HasCalendar (map opened (take i days)) (opened d) before here)
+    (All-push HasCalendar (map opened (take i days)) (opened d) before here)
 
 -- the pipelines of days, which are those of what they are opened with
 pub pipelines_are : (days : List DayText) → map (λ d. d.contracts.pipeline) days ≡ map (λ o. o.held.pipeline) (map opened days)

@@ -16,4 +16,4 @@ returns g c =
     let asked = rw (c.as_slice-2.ensures.value, c.as_slice-3.ensures.value) at c.in_ok-phases.ensures in
     let many : vec_len c.in_ok-books.books ≡ length c.args.days.items = let b = c.in_ok-books.ensures in search rules in
     tells_days c.tell_books.result days (vec_len c.in_ok-books.books) (map phase c.in_ok-texts.texts.items) c.in_ok-phases.phases.items c.args.rows.now
-      calendars c.in_ok-texts.ensures asked many (rw c.as_slice-4.ensures.value at c.tell_books.ensures)
+    calendars c.in_ok-texts.ensures asked many (rw c.as_slice-4.ensures.value at c.tell_books.ensures)

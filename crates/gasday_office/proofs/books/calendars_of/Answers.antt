@@ -14,9 +14,10 @@ returns-in_err-take_day-clause-first c =
     rw (p.1, p.2) (lacks_at c.args.days.now c.loop-day.day-index c.day-item.result _ c.loop-day-test.true c.day-item.is c.loop-day.invariant.1 c.in_err-take_day.ensures.err)
 
 pub loop-day-preserved : goal.loop-day-preserved
-loop-day-preserved c =
-    ((let l = c.in_ok-take_day.ensures.len in let i = c.loop-day.invariant.0 in search rules),
-      calendars_more c.args.days.now c.loop-day.day-index c.day-item.result c.loop-day-test.true c.day-item.is c.loop-day.invariant.1 c.in_ok-take_day.ensures.ok)
+loop-day-preserved c = (
+  (let l = c.in_ok-take_day.ensures.len in let i = c.loop-day.invariant.0 in search rules),
+  calendars_more c.args.days.now c.loop-day.day-index c.day-item.result c.loop-day-test.true c.day-item.is c.loop-day.invariant.1 c.in_ok-take_day.ensures.ok,
+)
 
 pub returns-clause-all : goal.returns-clause-all
 returns-clause-all c =

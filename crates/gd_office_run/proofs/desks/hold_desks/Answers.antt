@@ -14,10 +14,12 @@ loop-desk-preserved-in_ok-take_desk c =
     record {
       left = search rules;
       held = λ slots of.
-        let was = c.loop-desk.invariant.held slots of in let took = c.in_ok-take_desk.ensures slots was.0 in
-        (took.0, λ k below. desk_step (share_at c.loop-desk.held k) (share_at c.take_desk.new.self k)
-            (plus (share_at c.args.held.now k) (of_desks 0 c.args.desks.items k)) at k (into_iter_items c.loop-desk.desk-iterator)
-            (into_iter_items c.next.new.self) c.in-Some.desk items (was.1 k below) (took.1 k below));
+          let was = c.loop-desk.invariant.held slots of in let took = c.in_ok-take_desk.ensures slots was.0 in (
+            took.0,
+            λ k below. desk_step (share_at c.loop-desk.held k) (share_at c.take_desk.new.self k)
+                (plus (share_at c.args.held.now k) (of_desks 0 c.args.desks.items k)) at k (into_iter_items c.loop-desk.desk-iterator)
+                (into_iter_items c.next.new.self) c.in-Some.desk items (was.1 k below) (took.1 k below),
+          );
     }
 
 pub loop-desk-preserved : goal.loop-desk-preserved
@@ -28,16 +30,20 @@ loop-desk-preserved c =
     record {
       left = search rules;
       held = λ slots of.
-        let was = c.loop-desk.invariant.held slots of in let took = c.in_ok-take_desk.ensures slots was.0 in
-        (took.0, λ k below. desk_step (share_at c.loop-desk.held k) (share_at c.take_desk.new.self k)
-            (plus (share_at c.args.held.now k) (of_desks 0 c.args.desks.items k)) at k (into_iter_items c.loop-desk.desk-iterator)
-            (into_iter_items c.next.new.self) c.in-Some.desk items (was.1 k below) (took.1 k below));
+          let was = c.loop-desk.invariant.held slots of in let took = c.in_ok-take_desk.ensures slots was.0 in (
+            took.0,
+            λ k below. desk_step (share_at c.loop-desk.held k) (share_at c.take_desk.new.self k)
+                (plus (share_at c.args.held.now k) (of_desks 0 c.args.desks.items k)) at k (into_iter_items c.loop-desk.desk-iterator)
+                (into_iter_items c.next.new.self) c.in-Some.desk items (was.1 k below) (took.1 k below),
+          );
     }
 
 pub returns : goal.returns
 returns c slots of =
     let end : into_iter_items c.loop-desk.desk-iterator ≡ [] =
     let s = c.in-None.ensures.steps.0 in let o = c.loop-desk.desk-iterator.rest.ok in nil_from_length (into_iter_items c.loop-desk.desk-iterator) (omega arith) in
-    let was = c.loop-desk.invariant.held slots of in
-    (was.0, λ k below. desk_end (share_at c.loop-desk.held k) (plus (share_at c.args.held.now k) (of_desks 0 c.args.desks.items k))
-        c.loop-desk.at k (into_iter_items c.loop-desk.desk-iterator) end (was.1 k below))
+    let was = c.loop-desk.invariant.held slots of in (
+      was.0,
+      λ k below. desk_end (share_at c.loop-desk.held k) (plus (share_at c.args.held.now k) (of_desks 0 c.args.desks.items k))
+          c.loop-desk.at k (into_iter_items c.loop-desk.desk-iterator) end (was.1 k below),
+    )

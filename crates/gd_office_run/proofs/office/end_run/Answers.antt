@@ -26,8 +26,11 @@ pub returns-clause-ok : goal.returns-clause-ok
 returns-clause-ok g c =
     let run = c.requires in let os = run.0 in let ends = c.in_ok-ends.ends.items in
     let slots = length c.args.office.now.slots.items in
-    let long : length c.in_ok-ends.ends.items ≡ length c.args.office.now.slots.items = let l = c.in_ok-ends.ensures.len in search rules in
-    (os, ends, run.1,
+    let long : length c.in_ok-ends.ends.items ≡ length c.args.office.now.slots.items = let l = c.in_ok-ends.ensures.len in search rules in (
+      os,
+      ends,
+      run.1,
       (long, end_same (share_at c.args.held) (share_of os) 0 ends (λ k low high. run.3.1 k (omega (arith, high, long))) c.in_ok-ends.ensures.ends),
       c.in_ok-append.ensures.items ∙ ap₂ (λ (a b : List Reply). a ++ b) run.2 (c.in_ok-last.ensures ∙ ap (ends_rows 1) c.as_slice.ensures.value),
-      c.all_reconciled.ensures ∙ ap (list_all is_reconciled) c.as_slice-2.ensures.value)
+      c.all_reconciled.ensures ∙ ap (list_all is_reconciled) c.as_slice-2.ensures.value,
+    )

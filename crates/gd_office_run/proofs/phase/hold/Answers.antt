@@ -20,10 +20,12 @@ returns c slots of =
     let a = c.in_ok-take_sessions.ensures slots of in let b = c.in_ok-hold_desks.ensures slots a.0 in
     let given = c.args.given in let lists = lists_of given.lists.items in
     let long : c.len.result ≡ length (lists_of c.args.given.lists.items) = let mapped = length-map c.args.given.lists.items (λ (v : Vec Receipt). v.items) in let l = c.len.ensures in search rules in
-    let numbers = c.in_ok-numbers.ensures ∙ ap (range_with_len c.args.first) long in
-    (b.0, λ k below.
-      let desks = of_desks 0 given.desks.items k in
-      b.1 k below ∙ ap (λ (s : Share). plus s desks) (a.1 k below)
-      ∙ ap (λ (s : Share). plus (plus (share_at c.args.held.now k) s) desks)
+    let numbers = c.in_ok-numbers.ensures ∙ ap (range_with_len c.args.first) long in (
+      b.0,
+      λ k below.
+          let desks = of_desks 0 given.desks.items k in
+          b.1 k below ∙ ap (λ (s : Share). plus s desks) (a.1 k below)
+          ∙ ap (λ (s : Share). plus (plus (share_at c.args.held.now k) s) desks)
           (sessions_are k c.as_slice.result.now c.args.phase.now.sessions.items _ (counts_of lists) lists c.in_ok-numbers.numbers.items _ c.as_slice.ensures.value c.requires.counted numbers)
-      ∙ plus_assoc (share_at c.args.held.now k) _ desks)
+          ∙ plus_assoc (share_at c.args.held.now k) _ desks,
+    )

@@ -8,9 +8,11 @@ pub returns-clause-gives : goal.returns-clause-gives
 returns-clause-gives g c =
     let sent = rw c.as_mut_slice.ensures.value at c.in_ok-lists.ensures.sent in
     let lists = lists_of c.in_ok-lists.lists.items in
-    let mine = receipts_of c.in_ok-sessions.sessions.items c.as_slice-rows.result.now lists c.in_ok-sessions.ensures sent in
-    (rw c.as_slice-rows.ensures.value at mine, c.in_ok-desks.ensures.each,
-      (let a = c.in_ok-desks.ensures.len in let b = c.in_ok-given.ensures.len in search rules))
+    let mine = receipts_of c.in_ok-sessions.sessions.items c.as_slice-rows.result.now lists c.in_ok-sessions.ensures sent in (
+      rw c.as_slice-rows.ensures.value at mine,
+      c.in_ok-desks.ensures.each,
+      (let a = c.in_ok-desks.ensures.len in let b = c.in_ok-given.ensures.len in search rules),
+    )
 
 pub returns-clause-counted : goal.returns-clause-counted
 returns-clause-counted g c =
