@@ -3,7 +3,7 @@
 use gasday_part::{Command, UsageFault, command_of};
 use std::test::Fail;
 
-const LINES: [(&[&str], &str); 34] = [
+const LINES: [(&[&str], &str); 37] = [
     (&[], "allowed"),
     (&["gasday"], "allowed"),
     (&["gasday", "check", "allowed"], "allowed"),
@@ -27,7 +27,10 @@ const LINES: [(&[&str], &str); 34] = [
     (&["gasday", "check", "calendar"], "usage"),
     (&["gasday", "day"], "day"),
     (&["gasday", "day", "--help"], "help of day"),
+    (&["gasday", "office"], "office"),
+    (&["gasday", "office", "--help"], "help of office"),
     (&["gasday", "day", "2026-03-08"], "usage"),
+    (&["gasday", "office", "2"], "usage"),
     (&["gasday", "nonsense"], "usage"),
     (&["gasday", ""], "usage"),
     (&["gasday", "Check", "allowed"], "usage"),
@@ -49,6 +52,7 @@ fn told(rt: &HostRuntime, words: &[&str]) -> Option<(&'static str, String)> {
         Ok(Command::Solve) => Some(("solve", String::new(rt.alloc()))),
         Ok(Command::Calendar) => Some(("calendar", String::new(rt.alloc()))),
         Ok(Command::Day) => Some(("day", String::new(rt.alloc()))),
+        Ok(Command::Office) => Some(("office", String::new(rt.alloc()))),
         Err(UsageFault::Help(text)) => Some(("help", text)),
         Err(UsageFault::Usage(text)) => Some(("usage", text)),
         Err(UsageFault::OutOfMemory) => None,
@@ -66,6 +70,10 @@ fn reads_well(answer: &str, text: &str) -> bool {
         }
         "help of day" => {
             text.contains("\n  gasday day < examples/gas-day/two-cycles.csv\n")
+                && text.ends_with('\n')
+        }
+        "help of office" => {
+            text.contains("\n  gasday office < examples/office/two-books.csv\n")
                 && text.ends_with('\n')
         }
         "help" => {
