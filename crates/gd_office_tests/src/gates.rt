@@ -3,10 +3,13 @@
 use crate::calls::{Said, nominate, reconciles, session};
 use crate::day::{NOMINATED, at, dth, line, name, office};
 use crate::desks::{round, told_by};
+use gd_board::Board;
 use gd_book::{Refusal, Reply};
 use gd_desk::Gate;
+use gd_lines::LineKey;
 use gd_office::Office;
 use gd_office_part::{Call, Receipt, SessionRows, Slot, send};
+use gd_units::{CycleNo, Dth, Moment, Name};
 use std::alloc::Global;
 use std::process::Abort;
 use std::sync::Wait;
@@ -52,6 +55,58 @@ impl Gate for Together {
     }
 }
 
+/// A gate that then holds the desk of slot 1 until a nomination in its book is answered and slot 2 has its posting. So no
+/// desk holds its lock there, nor waits for another one to close.
+#[derive(Drop)]
+struct Crossing<'o> {
+    together: Together,
+    office: &'o Office,
+    party: Name,
+    moment: Moment,
+    key: LineKey,
+    quantity: Dth,
+}
+
+impl Crossing<'_> {
+    fn nominates<R: Wait>(&self, rt: &R) -> bool {
+        match self.office.session(rt, 1, self.party) {
+            Ok(session) => {
+                let mut session = session;
+                session
+                    .nominate(rt, self.moment, self.key, self.quantity)
+                    .is_ok()
+            }
+            Err(_) => false,
+        }
+    }
+
+    fn sees_posting<R: Wait + Clock>(&self, rt: &R, board: &Board) -> bool {
+        for _ in 0..TURNS {
+            if board.read(CycleNo::ALL[0], &mut board.note()).is_some() {
+                return true;
+            }
+            thread::sleep(rt, Duration::from_millis(1));
+        }
+        false
+    }
+
+    fn crosses<R: Wait + Clock>(&self, rt: &R) -> bool {
+        match self.office.board(2) {
+            Some(board) => self.nominates(rt) && self.sees_posting(rt, board),
+            None => false,
+        }
+    }
+}
+
+impl Gate for Crossing<'_> {
+    fn pass<R: Wait + Clock>(&self, rt: &R, slot: u32) {
+        self.together.pass(rt, slot);
+        if slot == 1 && !self.crosses(rt) {
+            self.together.gave_up.store(true, Ordering::SeqCst);
+        }
+    }
+}
+
 /// A session of the slot at a place, which nominates a quantity.
 fn rows(rt: &impl Abort, alloc: Global, slot: usize, quantity: u64) -> SessionRows {
     let call = Call::Nominate {
@@ -89,44 +144,57 @@ fn shows_slot(rt: &impl Abort, receipts: &[Receipt], slot: u32) {
     }
 }
 
-/// Shows that a slot's desk published, and that its receipts and its session's are all of its book.
+/// Shows that a slot's desk published as this event, and that its receipts and its session's are all of its book.
 fn shows_desk(
     rt: &(impl Abort + Wait),
     alloc: Global,
     office: &Office,
     slot: u32,
     lists: [Vec<Receipt>; 2],
+    published: u64,
 ) {
     let [desk, sent] = &lists;
-    let told = (Said::Frozen(2, 1, 1, 1), Said::Published(3, 1, 1));
+    let told = (Said::Frozen(2, 1, 1, 1), Said::Published(published, 1, 1));
     assert_eq!(rt; told_by(rt, desk.as_slice()), told);
     shows_slot(rt, desk.as_slice(), slot);
     shows_slot(rt, sent.as_slice(), slot);
-    reconciles(rt, alloc, office, slot, lists.as_slice(), Ok(3));
+    reconciles(rt, alloc, office, slot, lists.as_slice(), Ok(published));
 }
 
-/// The desks of two books meet at a gate.
+/// The desks of two books meet at a gate. The nomination at the gate of slot 1 is its third event.
 fn two_books(
     rt: &(impl Abort + Threads + Wait + Clock + Sync),
     alloc: Global,
     office: &Office,
-    gate: &Together,
+    gate: &Crossing<'_>,
 ) {
     let mut sent = send_to_both(rt, alloc, office);
     let mut desks = round(rt, alloc, office, gate);
-    assert!(rt; gate.met());
+    assert!(rt; gate.together.met());
     assert_eq!(rt; (desks.len(), sent.len()), (2, 2));
-    for slot in [2, 1] {
+    for (slot, published) in [(2, 3), (1, 4)] {
         let desk = desks.pop().expect(rt, "a desk");
         let lists = [desk, sent.pop().expect(rt, "a session")];
-        shows_desk(rt, alloc, office, slot, lists);
+        shows_desk(rt, alloc, office, slot, lists, published);
+    }
+}
+
+/// A gate that two desks cross, with a nomination for Evening.
+fn gate_over<'o>(rt: &impl Abort, office: &'o Office) -> Crossing<'o> {
+    Crossing {
+        together: Together::new(),
+        office,
+        party: name(rt, "SHIP"),
+        moment: at(rt, NOMINATED),
+        key: line(rt, "P"),
+        quantity: dth(rt, 10),
     }
 }
 
 #[test]
 fn desks_of_two_books(rt: HostRuntime) {
     let office = office(&rt, rt.alloc(), ["BOOK1", "BOOK2"].as_slice());
-    two_books(&rt, rt.alloc(), &office, &Together::new());
+    two_books(&rt, rt.alloc(), &office, &gate_over(&rt, &office));
 }
 
 /// Shows that a book has three events, of which the third is its only publish.
