@@ -1,0 +1,19 @@
+//! An archive of published schedules: a SQLite database that keeps, for each book and cycle, the posting that was published,
+//! as the text of its question, schedule, prices and bumped lines.
+//!
+//! Each call is generic over the store. What it promises of the database holds where the store is clean as the call ends:
+//! in memory always, in a file where nobody else writes it and the disk returns what was written.
+#![tactic(auto)]
+
+mod auditing;
+mod fault;
+mod keeping;
+mod migration;
+mod row;
+mod sound;
+
+pub use auditing::audit;
+pub use fault::{AuditFault, FetchFault, Rule, Unsound};
+pub use gd_archive_store::{KeepFault, MigrateFault, StoreFault, make};
+pub use keeping::{fetch, keep};
+pub use migration::migrate;

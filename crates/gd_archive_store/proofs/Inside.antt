@@ -1,0 +1,128 @@
+-- What a statement inside a transaction keeps.
+use Rattle.std.proofs.Common.{All, map, take, length, get_or, suc, ◌+◌, ◌<◌, ◌++◌, arith, ◌≡◌, ◌⊎◌, inl, inr, ℕ, List, [], Ok, Err, Result, IfOk, IfErr, OnOk, ℤ, pos, ◌∷◌, IsTrue, refl, sym, ap, subst, ◌∙◌}
+use Rattle.sqlite.specs.Order.{Row, column}
+use Rattle.sqlite.specs.Effect.{Database}
+use Rattle.sqlite.specs.declared.error.Error.{Error}
+use Rattle.sqlite.specs.State.{State, IsUnchanged, IsRolledBack, KeepsCommit, Executes, ExecutesInside, Shown, FailsToQuery, IsTooLate}
+use Rattle.sqlite.specs.declared.types.Value.{Value}
+use Rattle.sqlite.specs.declared.types.Value.TheVariants.{Int, Text as Words}
+use Rattle.sqlite.specs.Cast.{cast}
+use Rattle.sqlite.specs.Kind.TheVariants.{Integer}
+use Rattle.sqlite.specs.Listing.{understood}
+use Rattle.sqlite.proofs.Callers.{IsPlain}
+use Rattle.gd_archive_store.specs.Kept.{IsRefused}
+use Rattle.gd_archive_store.proofs.Refusing.{query_refused}
+use Rattle.gd_archive_store.proofs.Finding.{shown_same}
+use Rattle.gd_archive_store.proofs.Inserting.{Enters, enters}
+use Rattle.gd_archive_store.proofs.Texts.{insert_text}
+use Rattle.gd_archive_store.specs.Tables.{archive, posting, posting2, no_schema, only_archive, version_1, version_2}
+use Rattle.gd_archive_store.specs.Kept.{rows_of, old_rows_of, shown}
+use Rattle.gd_archive_store.proofs.Texts.{archive_is, posting_is, posting2_is, archive_plain, posting_plain, posting2_plain, create_archive_text, create_posting_text, create_posting2_text}
+use Rattle.gd_archive_store.specs.Carried.{IsBuilt, IsOneMore, IsMore, IsMigrated, carried}
+use Rattle.std.specs.List.Sorted.{IsPermutation}
+use Rattle.std.proofs.lemmas.List.Sorted.{IsPermutation-refl, IsPermutation-trans, IsPermutation-map, IsPermutation-push_more, IsPermutation-sym, All-permutation, length_permutation}
+use Rattle.std.proofs.lemmas.List.Elements.{All-push}
+use Rattle.std.proofs.lemmas.List.{map-append}
+use Rattle.std.proofs.Math.Seq.{take-suc}
+use Rattle.gd_archive_store.proofs.Texts.{drop_posting_text, drop_archive_text, enter_version_text, without_posting, without_archive}
+use Rattle.gd_archive_store.proofs.Steps.{creates, drops_posting, drops_archive, enters_version}
+use Rattle.gd_archive_store.proofs.Keys.{rows_more}
+
+unchanged_keeps : (old new : State) → IsUnchanged old new → KeepsCommit old new
+unchanged_keeps old new h = record { was_open = λ _. h.0.was_open; committed = λ _. h.0.committed_is }
+
+rolled_keeps : (old new : State) → IsRolledBack old new → KeepsCommit old new
+rolled_keeps old new h = record { was_open = h.was_open; committed = λ up. (h.undone up).1 }
+
+pub inside_keeps : (sql : List ℕ) (params : Row) (old new : State) (r : Result ℕ Error) → ExecutesInside 0 sql params old new r → KeepsCommit old new
+inside_keeps sql params old new (Ok n) h = record { was_open = λ _. h.1.was_open; committed = λ _. h.1.committed_is }
+inside_keeps sql params old new (Err e) (inl (h, inl same)) = unchanged_keeps old new same
+inside_keeps sql params old new (Err e) (inl (h, inr back)) = rolled_keeps old new back
+inside_keeps sql params old new (Err e) (inr h) = unchanged_keeps old new h.2
+
+pub inside_ran : (sql : List ℕ) (params : Row) (old new : State) (r : Result ℕ Error) → ExecutesInside 0 sql params old new r → IfOk r (λ n. Executes sql params old new (Ok n) × IsTrue new.in_transaction)
+inside_ran sql params old new (Ok n) h = (h.0, h.1.mode)
+inside_ran sql params old new (Err e) h = tt
+
+pub keeps_then : (a b c : State) → KeepsCommit a b → KeepsCommit b c → KeepsCommit a c
+keeps_then a b c p q = record { was_open = λ up. p.was_open (q.was_open up); committed = λ up. q.committed up ∙ p.committed (q.was_open up) }
+
+pub clears : (a b c : State) (m n : ℕ) → a.now.schema ≡ version_1 → Executes drop_posting_text [] a b (Ok m) → Executes drop_archive_text [] b c (Ok n) → c.now.schema ≡ no_schema
+clears a b c m n has one two = (drops_archive b c n ((drops_posting a b m has one).schema ∙ without_posting) two).schema ∙ without_archive
+
+pub builds : (a b c d e : State) (k l m n : ℕ) → a.now.schema ≡ no_schema → Executes create_archive_text [] a b (Ok k) → Executes create_posting_text [] b c (Ok l) → Executes create_posting2_text [] c d (Ok m)
+    → Executes enter_version_text [] d e (Ok n) → IsBuilt e.now
+builds a b c d e k l m n has h1 h2 h3 h4 =
+    let one = creates create_archive_text no_schema archive archive_is.0 archive_is.1 archive_is.2 archive_plain refl a b k has h1 in
+    let two = creates create_posting_text only_archive posting posting_is.0 posting_is.1 posting_is.2 posting_plain refl b c l one.schema h2 in
+    let three = creates create_posting2_text version_1 posting2 posting2_is.0 posting2_is.1 posting2_is.2 posting2_plain refl c d m two.schema h3 in
+    let four = enters_version d e n three.schema (three.others.0 ∙ two.others.0 ∙ one.empty) h4 in
+    record {
+      schema = four.schema;
+      version = four.version;
+      before = four.before ∙ three.others.1.0 ∙ two.empty;
+      postings = four.postings ∙ three.empty;
+    }
+
+refused_keeps : (old new : State) → IsRefused old new → KeepsCommit old new
+refused_keeps old new (inl same) = unchanged_keeps old new same
+refused_keeps old new (inr back) = rolled_keeps old new back
+
+pub query_keeps : (rows : Type 0) (items : rows → List Row) (sql : List ℕ) (params : Row) (old new : State) (r : Result rows Error) → IsPlain (understood old.now.schema sql)
+    → IfOk r (λ x. Shown sql params old new (items x)) → IfErr r (λ e. FailsToQuery sql params old new e ⊎ IsTooLate sql params old new e) → KeepsCommit old new
+query_keeps rows items sql params old new (Ok x) plain h f = unchanged_keeps old new (shown_same sql params old new (items x) plain h)
+query_keeps rows items sql params old new (Err e) plain h (inl f) = refused_keeps old new (query_refused old new sql params e f)
+query_keeps rows items sql params old new (Err e) plain h (inr f) = unchanged_keeps old new f.5
+
+one_more : (old new : Database) (book : List ℕ) (cycle : ℤ) (round body : Value) (rule : ℤ) → Enters old new book cycle round body rule → IsOneMore old new (Words book ∷ Int cycle ∷ round ∷ body ∷ Int rule ∷ [])
+one_more old new book cycle round body rule e = record { schema = e.schema; rows = rows_more old new book cycle round body rule e; version = e.version; before = e.postings }
+
+-- the row of version 1 that is entered, with its round as the column keeps it
+pub inserts : (old new : State) (book : List ℕ) (cycle : ℕ) (round body : Value) (r : Result ℕ Error) → old.now.schema ≡ version_2
+    → ExecutesInside 0 insert_text (Words book ∷ Int (pos cycle) ∷ round ∷ body ∷ Int (pos 1) ∷ []) old new r
+    → OnOk r (IsOneMore old.now new.now (Words book ∷ Int (pos cycle) ∷ cast Integer round ∷ body ∷ Int (pos 1) ∷ []) × IsTrue new.in_transaction)
+inserts old new book cycle round body (Err e) has h = tt
+inserts old new book cycle round body (Ok n) has h =
+    let ran = inside_ran insert_text _ old new (Ok n) h in
+    (one_more old.now new.now book (pos cycle) (cast Integer round) body (pos 1) (enters old new book (pos cycle) round (cast Integer round) body (pos 1) (Ok n) refl has ran.0), ran.1)
+
+pub carry_more : (f : Row → Row) (old mid new : Database) (rows : List Row) (i : ℕ) (row : Row) → IsMore old mid (map f (take i rows)) → IsOneMore mid new (f row) → i < length rows → row ≡ get_or rows i row
+    → IsMore old new (map f (take (i + 1) rows))
+carry_more f old mid new rows i row more one low is =
+    let next : i + 1 ≡ suc i = omega arith in
+    let split : take (i + 1) rows ≡ take i rows ++ row ∷ [] = ap (λ n. take n rows) next ∙ take-suc rows i row low ∙ ap (λ x. take i rows ++ x ∷ []) (sym is) in
+    let mapped : map f (take (i + 1) rows) ≡ map f (take i rows) ++ f row ∷ [] = ap (map f) split ∙ map-append f (take i rows) (row ∷ []) in
+    record {
+      schema = one.schema;
+      rows_are = subst (λ xs. IsPermutation xs (rows_of new)) (sym mapped) (IsPermutation-push_more (map f (take i rows)) (rows_of mid) (rows_of new) (f row) more.rows_are one.rows);
+      version = one.version ∙ more.version;
+      before = one.before ∙ more.before;
+    }
+
+-- what holds of the rows so far and of the next holds of one row more
+pub all_more : (P : Row → Type 0) (rows : List Row) (i : ℕ) (row : Row) → All P (take i rows) → i < length rows → row ≡ get_or rows i row → P row → All P (take (i + 1) rows)
+all_more P rows i row all low is p =
+    let next : i + 1 ≡ suc i = omega arith in
+    let split : take (i + 1) rows ≡ take i rows ++ row ∷ [] = ap (λ n. take n rows) next ∙ take-suc rows i row low ∙ ap (λ x. take i rows ++ x ∷ []) (sym is) in
+    subst (All P) (sym split) (All-push P (take i rows) row all p)
+
+-- what holds of the rows that were read holds of those that are there
+pub all_held : (P : Row → Type 0) (old : Database) (rows : List Row) → IsPermutation (old_rows_of old) rows → All P rows → All P (old_rows_of old)
+all_held P old rows shown all = All-permutation P rows (old_rows_of old) (IsPermutation-sym (old_rows_of old) rows shown) all
+
+pub none_yet : (f : Row → Row) (old : Database) (rows : List Row) → IsBuilt old → IsMore old old (map f (take 0 rows))
+none_yet f old rows built =
+    record { schema = built.schema; rows_are = subst (λ xs. IsPermutation [] (map shown xs)) (sym built.postings) (IsPermutation-refl []); version = refl; before = refl }
+
+pub migrates : (rewritten : Row → Value) (old built last : Database) (rows : List Row) (count : ℕ) → IsPermutation (old_rows_of old) rows → IsBuilt built → IsMore built last (map (carried rewritten) rows) → count ≡ length rows
+    → IsMigrated rewritten old last count
+migrates rewritten old built last rows count shown b more n = record {
+  schema = more.schema;
+  version = ap (map (λ (r : Row). column r 2 ∷ [])) more.version ∙ b.version;
+  rows = IsPermutation-trans _ _ _ (IsPermutation-map (carried rewritten) (old_rows_of old) rows shown) more.rows_are;
+  before = more.before ∙ b.before;
+  counted = n ∙ length_permutation (old_rows_of old) rows shown;
+}
+
+pub migrated_at : (rewritten : Row → Value) (old last final committed : Database) (count : ℕ) → IsMigrated rewritten old last count → final ≡ last → committed ≡ last → IsMigrated rewritten old final count × (committed ≡ final)
+migrated_at rewritten old last final committed count h e f = (subst (λ (d : Database). IsMigrated rewritten old d count) (sym e) h, f ∙ sym e)

@@ -1,0 +1,13 @@
+pub mod Terms
+pub mod Texts
+pub mod Rows
+pub mod Finding
+pub mod Refusing
+pub mod Reading
+pub mod Inserting
+pub mod Keys
+pub mod Ascending
+pub mod Listing
+pub mod Keeping
+pub mod Steps
+pub mod Inside

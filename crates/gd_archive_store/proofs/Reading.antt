@@ -1,0 +1,49 @@
+-- What a row that is read says of the table.
+use Rattle.std.proofs.Common.{pos, ◌≤◌, ◌<◌, length, get_or, arith, ◌≡◌, ℕ, ℤ, List, [], ◌∷◌, map, refl, sym, ap, subst, ◌∙◌}
+use Rattle.std.specs.List.Sorted.{IsPermutation}
+use Rattle.std.proofs.lemmas.List.Sorted.{IsPermutation-sym, length_permutation}
+use Rattle.sqlite.specs.declared.types.Value.TheVariants.{Int}
+use Rattle.sqlite.specs.Order.{Row, column}
+use Rattle.sqlite.specs.Effect.{Database}
+use Rattle.sqlite.proofs.Callers.{one_permutation}
+use Rattle.sqlite.specs.Schema.{Schema}
+use Rattle.gd_archive_store.specs.Tables.{version_2, HasArchive}
+use Rattle.gd_archive_store.specs.Kept.{versions_of, HasVersion}
+
+single : (rows : List Row) (row : Row) (n : ℤ) → map (λ r. column r 2 ∷ []) rows ≡ row ∷ [] → column row 0 ≡ Int n → map (λ r. column r 2 ∷ []) rows ≡ (Int n ∷ []) ∷ []
+single [] row n h e = absurd cc
+single (r ∷ []) row n h e = let same : column r 2 ∷ [] ≡ row = cc in ap (λ v. (v ∷ []) ∷ []) (ap (λ (x : Row). column x 0) same ∙ e)
+single (r ∷ s ∷ rows) row n h e = absurd cc
+
+pub version_read : (db : Database) (rows : List Row) (row : Row) (n : ℕ) → IsPermutation (versions_of db) rows → rows ≡ row ∷ [] → column row 0 ≡ Int (pos n) → HasVersion db n
+version_read db rows row n h is e =
+    let back : IsPermutation (row ∷ []) (map (λ r. column r 2 ∷ []) (db.trees 0)) = IsPermutation-sym _ _ (subst (IsPermutation (versions_of db)) is h) in
+    single (db.trees 0) row (pos n) (one_permutation row _ back) e
+
+alone : (items : List Row) (row : Row) → 1 ≤ length items → length items < 2 → row ≡ get_or items 0 row → items ≡ row ∷ []
+alone [] row some low is = absurd (omega arith)
+alone (r ∷ []) row some low is = ap (λ x. x ∷ []) (sym is)
+alone (r ∷ s ∷ items) row some low is = absurd (omega arith)
+
+pub version_row : (db : Database) (items seen : List Row) (row : Row) (n : ℕ) → IsPermutation (versions_of db) items → seen ≡ items → 1 ≤ length seen → length seen < 2 → row ≡ get_or seen 0 row → column row 0 ≡ Int (pos n) → HasVersion db n
+version_row db items seen row n h same some low is e = version_read db items row n h (sym same ∙ alone seen row some low is) e
+
+pub none_there : {X : Type 0} (xs ys : List X) → IsPermutation xs ys → ys ≡ [] → xs ≡ []
+none_there [] ys h e = refl
+none_there (x ∷ xs) ys h e = absurd (omega (arith, length_permutation (x ∷ xs) ys h, ap length e))
+
+pub some_there : {X : Type 0} (xs ys : List X) → IsPermutation xs ys → (ys ≡ [] → ⊥) → xs ≡ [] → ⊥
+some_there xs [] h some e = some refl
+some_there xs (y ∷ ys) h some e = omega (arith, length_permutation xs (y ∷ ys) h, ap length e)
+
+nothing : (rows : List Row) → map (λ r. column r 2 ∷ []) rows ≡ [] → rows ≡ []
+nothing [] h = refl
+nothing (r ∷ rows) h = absurd cc
+
+-- where no version is read, the version's table is empty
+pub unread : (db : Database) (rows : List Row) → IsPermutation (versions_of db) rows → length rows ≡ 0 → db.trees 0 ≡ []
+unread db [] h none = nothing (db.trees 0) (none_there _ [] h refl)
+unread db (r ∷ rows) h none = absurd (omega (arith, none))
+
+pub archive_first : (s : Schema) → s ≡ version_2 → HasArchive s
+archive_first s is = (_, ap (λ (t : Schema). t.tables) is)

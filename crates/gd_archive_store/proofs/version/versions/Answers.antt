@@ -1,0 +1,14 @@
+use Rattle.std.proofs.lemmas.Result.{IfOk-weaker, IfErr-weaker}
+use Rattle.sqlite.specs.Held.{state}
+use Rattle.gd_archive_store.proofs.Finding.{versions_shown}
+use Rattle.gd_archive_store.proofs.Refusing.{query_refused}
+use Rattle.gd_archive_store.proofs.Texts.{version_text}
+use Rattle.gd_archive_store.proofs.version.versions.Goals as goal
+
+pub returns-clause-shown : goal.returns-clause-shown
+returns-clause-shown g c clean has =
+    IfOk-weaker c.query_all.result _ _ (λ rows. versions_shown (state g.S.Store c.args.conn.now) (state g.S.Store c.query_all.new.self) rows.items has) (c.query_all.ensures.ok clean)
+
+pub returns-clause-refused : goal.returns-clause-refused
+returns-clause-refused g c clean =
+    IfErr-weaker c.query_all.result _ _ (λ e. query_refused (state g.S.Store c.args.conn.now) (state g.S.Store c.query_all.new.self) version_text _ e) (c.query_all.ensures.err clean)

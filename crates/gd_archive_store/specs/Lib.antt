@@ -1,0 +1,4 @@
+pub mod Tables
+pub mod Kept
+pub mod Carried
+pub mod Calls

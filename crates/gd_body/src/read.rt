@@ -1,0 +1,61 @@
+//! How a body is read.
+
+ghost use Rattle.std.specs.Prelude.{◌≡◌, IfOk};
+ghost use Rattle.gd_text.specs.Building.{Builds};
+ghost use Rattle.gd_body.specs.Body as spec;
+
+use crate::fault::BodyFault;
+use gd_board::{Bumped, Posting};
+use gd_certificate::Prices;
+use gd_cost::Tariff;
+use gd_system::System;
+use gd_text::{Asked, asked_of, prices_of};
+use gd_text_part::{Form, Row, TextFault, rows_in};
+use std::alloc::{AllocError, Global};
+
+/// The lines of the `bumped` rows, which count them from 1.
+fn bumped_of(alloc: Global, rows: &[Row]) -> Result<Bumped, AllocError>
+    ensures { IfOk result (λ bumped. bumped ≡ spec.bumped_of rows.now) }
+{
+    let mut lines = Vec::new(alloc);
+    'rows: for row in rows {
+        if let Row::Bumped { line, quantity } = *row {
+            lines.push((line.saturating_sub(1), quantity))?;
+        }
+    }
+    Ok(Bumped::of(lines))
+}
+
+/// The prices that the rows give for the elements of a system, or the first refusal.
+fn tariffs_of(alloc: Global, rows: &[Row], system: &System) -> Result<Prices<Tariff>, TextFault>
+    ensures { Builds (λ prices. prices) result (spec.tariffs_of rows.now system.now) }
+{
+    let table = prices_of(alloc, rows, system)?;
+    Ok(table.prices(alloc)?)
+}
+
+/// The posting that the rows say, or the first refusal.
+fn posting_of(alloc: Global, rows: &[Row]) -> Result<Posting, TextFault>
+    ensures { Builds (λ posting. posting) result (spec.posting_of rows.now) }
+{
+    let Asked { question, schedule } = asked_of(alloc, rows)?;
+    let prices = tariffs_of(alloc, rows, question.system())?;
+    let bumped = bumped_of(alloc, rows)?;
+    Ok(Posting {
+        book: question.book(),
+        cycle: question.cycle(),
+        round: question.round(),
+        question,
+        schedule,
+        prices,
+        bumped,
+    })
+}
+
+/// The posting that a text says. `Damaged` where it says none, or is too long; the only other error is want of memory.
+pub fn read_body(alloc: Global, text: &[u8]) -> Result<Posting, BodyFault>
+    ensures { spec.Reads text.now result }
+{
+    let rows = rows_in(alloc, Form::Body, text)?;
+    Ok(posting_of(alloc, &rows)?)
+}
