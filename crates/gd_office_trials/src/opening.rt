@@ -1,0 +1,141 @@
+//! Books on one segment S1 from A to B, with a receipt point R1 at A and a delivery point D1 at B. One party is the shipper of
+//! the contract and the operator of both ends, so that one session can make every call.
+
+use gd_book::Book;
+use gd_calendar::{Calendar, GasDay};
+use gd_contracts::{Contract, Contracts, Service};
+use gd_lines::LineKey;
+use gd_system::{Kind, System, SystemBuilder};
+use gd_units::{Dth, Moment, Name};
+use jiff::civil::date;
+use jiff::tz::TimeZone;
+use std::alloc::{AllocError, Global};
+use std::io;
+
+/// Who makes all calls of sessions.
+pub(crate) const PARTY: &str = "SHIP";
+
+/// Why a trial comes to no end.
+#[derive(Clone, Copy, Debug, PartialEq, Eq, Drop)]
+pub(crate) enum Fault {
+    /// A value can't be made, of its bounds or of memory.
+    Unmade,
+    /// A call finds no memory.
+    NoMemory,
+    /// A call has an answer that none of this office has.
+    Unforeseen,
+    /// A row can't be printed.
+    Untold,
+}
+
+impl From<AllocError> for Fault {
+    fn from(_e: AllocError) -> Fault {
+        Fault::NoMemory
+    }
+}
+
+impl From<io::Error> for Fault {
+    fn from(_e: io::Error) -> Fault {
+        Fault::Untold
+    }
+}
+
+pub(crate) fn name(text: &str) -> Result<Name, Fault> {
+    Name::read(text).map_err(|_| Fault::Unmade)
+}
+
+pub(crate) fn dth(number: u64) -> Result<Dth, Fault> {
+    Dth::new(number).map_err(|_| Fault::Unmade)
+}
+
+pub(crate) fn at(seconds: i64) -> Result<Moment, Fault> {
+    Moment::new(seconds).ok_or(Fault::Unmade)
+}
+
+/// The line of a contract from R1 to D1.
+pub(crate) fn line(contract: &str) -> Result<LineKey, Fault> {
+    Ok(LineKey {
+        contract: name(contract)?,
+        package: name("P")?,
+        origin: name("R1")?,
+        dest: name("D1")?,
+    })
+}
+
+fn add_segment(builder: &mut SystemBuilder) -> Result<(), Fault> {
+    let (from, to) = (name("A")?, name("B")?);
+    let added = builder.segment(name("S1")?, from, to, dth(100)?);
+    added.map_err(|_| Fault::Unmade)
+}
+
+fn add_points(builder: &mut SystemBuilder) -> Result<(), Fault> {
+    for (text, kind, place) in [("R1", Kind::Receipt, "A"), ("D1", Kind::Delivery, "B")] {
+        let (place, operator) = (name(place)?, name(PARTY)?);
+        let added = builder.point(name(text)?, kind, place, operator, dth(1000)?);
+        added.map_err(|_| Fault::Unmade)?;
+    }
+    Ok(())
+}
+
+fn add_elements(builder: &mut SystemBuilder) -> Result<(), Fault> {
+    add_segment(builder)?;
+    add_points(builder)
+}
+
+fn pipeline(alloc: Global) -> Result<System, Fault> {
+    let mut builder = SystemBuilder::new(alloc);
+    add_elements(&mut builder)?;
+    builder.finish().map_err(|_| Fault::Unmade)
+}
+
+fn add_contract(contracts: &mut Contracts) -> Result<(), Fault> {
+    let (origin, dest) = (name("R1")?, name("D1")?);
+    let added = contracts.add(Contract {
+        name: name("FIRM")?,
+        shipper: name(PARTY)?,
+        quantity: dth(100)?,
+        service: Service::Firm { origin, dest },
+    });
+    added.map_err(|_| Fault::Unmade)
+}
+
+fn contracts(alloc: Global) -> Result<Contracts, Fault> {
+    let mut contracts = Contracts::new(alloc, pipeline(alloc)?);
+    add_contract(&mut contracts)?;
+    Ok(contracts)
+}
+
+fn calendar(alloc: Global) -> Result<Calendar, Fault> {
+    let day = GasDay::new(date(2026, 3, 8)).map_err(|_| Fault::Unmade)?;
+    let zone = TimeZone::posix("CST6CDT,M3.2.0,M11.1.0").map_err(|_| Fault::Unmade)?;
+    Calendar::new(alloc, day, &zone).map_err(|_| Fault::Unmade)
+}
+
+/// What a book opens with, but for its name and the lines that are carried over.
+fn opening(alloc: Global) -> Result<(Contracts, Calendar), Fault> {
+    let calendar = calendar(alloc)?;
+    let contracts = contracts(alloc)?;
+    Ok((contracts, calendar))
+}
+
+/// A book of this name of the gas day 2026-03-08, with a capacity of 100 of S1 and a firm contract from R1 to D1.
+fn book(alloc: Global, text: &str) -> Result<Book, Fault> {
+    let name = name(text)?;
+    let (contracts, calendar) = opening(alloc)?;
+    let opened = Book::open(alloc, name, contracts, calendar, Vec::new(alloc));
+    opened.map_err(|_| Fault::Unmade)
+}
+
+fn add_book(alloc: Global, books: &mut Vec<Book>, text: &str) -> Result<(), Fault> {
+    let book = book(alloc, text)?;
+    books.push(book).map_err(|_| Fault::Unmade)
+}
+
+/// Two books.
+pub(crate) fn books(alloc: Global) -> Result<Vec<Book>, Fault> {
+    let mut books = Vec::new(alloc);
+    for text in ["NORTH", "SOUTH"] {
+        add_book(alloc, &mut books, text)?;
+    }
+    Ok(books)
+}
