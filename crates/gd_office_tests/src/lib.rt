@@ -11,6 +11,8 @@ mod day;
 #[cfg(test)]
 mod desks;
 #[cfg(test)]
+mod forged;
+#[cfg(test)]
 mod gates;
 #[cfg(test)]
 mod notes;

@@ -22,7 +22,7 @@ fn made(
 }
 
 /// The fault of the receipt at this place of this list.
-fn misfit(list: usize, index: usize) -> Result<u64, ReconcileFault> {
+pub(crate) fn misfit(list: usize, index: usize) -> Result<u64, ReconcileFault> {
     Err(ReconcileFault::Mismatch(Mismatch { list, index }))
 }
 
