@@ -45,8 +45,8 @@ use Rattle.gd_replies.specs.declared.reply.Reply.{Reply}
 use Rattle.gd_replies.specs.declared.reply.Reply.TheVariants as reply
 use Rattle.gasday_part.specs.declared.day.DayFault.{DayFault}
 use Rattle.gasday_part.specs.declared.day.DayFault.TheVariants as no
-use Rattle.gasday_part.specs.declared.command.Command.{Command}
-use Rattle.gasday_part.specs.declared.command.Command.TheVariants as command
+use Rattle.gasday_words.specs.declared.order.Command.{Command}
+use Rattle.gasday_words.specs.declared.order.Command.TheVariants as command
 
 -- rows, and the exit status that goes with them
 pub record Told : Type 0 where

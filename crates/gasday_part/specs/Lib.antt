@@ -1,5 +1,3 @@
-pub mod Meaning
-pub mod Told
 pub mod Answers
 pub mod AnswerSeen
 pub mod Written

@@ -2,7 +2,7 @@
 use Rattle.std.specs.Prelude.{◌≡◌, ◌⊎◌, ℕ, List, [], ◌∷◌, ◌++◌, Option, take}
 use Rattle.std.specs.Io.KnownBytes.{Appends}
 use Rattle.gd_replies.specs.Lines.{lines_of}
-use Rattle.gasday_part.specs.declared.command.Command.{Command}
+use Rattle.gasday_words.specs.declared.order.Command.{Command}
 use Rattle.gasday_part.specs.Answers.{Told, MayAnswer, no_memory}
 
 -- What was written of an answer, and the exit status. All of it. Or memory ran out, and what was written are the first of

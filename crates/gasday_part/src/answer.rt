@@ -7,13 +7,13 @@ ghost use Rattle.gasday_part.specs.Answers as spec;
 ghost use Rattle.gasday_part.specs.AnswerSeen.{answer_seen};
 
 use crate::certificate::{tell_best, tell_cut};
-use crate::command::Command;
 use crate::course::tell_day;
 use crate::day::tell_calendar;
 use crate::solve::tell_solved;
+use gasday_words::Command;
 use gd_replies::{Reply, allowed_replies, broken_reply};
 use gd_text::{Asked, asked_of};
-use gd_text_part::{Row, TextFault, read_bytes, rows_in};
+use gd_text_part::{Form, Row, TextFault, read_bytes, rows_in};
 use std::alloc::{AllocError, Global};
 use std::io::Read;
 use std::thread::Threads;
@@ -37,6 +37,21 @@ impl Answer {
             status,
             short: false,
         }
+    }
+}
+
+/// How a command's text is read.
+fn form_of(command: Command) -> Form
+    ensures { result ≡ spec.form_of command }
+{
+    match command {
+        Command::CheckAllowed => Form::CheckAllowed,
+        Command::CheckBest => Form::CheckBest,
+        Command::CheckCut => Form::CheckCut,
+        Command::Solve => Form::Solve,
+        Command::Calendar => Form::Calendar,
+        Command::Day => Form::Day,
+        Command::Office => Form::Office,
     }
 }
 
@@ -119,7 +134,7 @@ pub fn answer_of(
     requires { command ≢ Command.Office }
     ensures { IfOk result (λ a. spec.AnswersBytes command text.now (answer_seen a)) }
 {
-    match rows_in(alloc, command.form(), text) {
+    match rows_in(alloc, form_of(command), text) {
         Ok(rows) => answer_to_rows(rt, alloc, command, rows.as_slice()),
         Err(fault) => of_fault(alloc, fault),
     }

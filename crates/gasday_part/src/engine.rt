@@ -8,7 +8,7 @@ ghost use Rattle.gasday_part.specs.Answers.{Told, no_memory};
 ghost use Rattle.gasday_part.specs.Written.{Answers, Written};
 
 use crate::answer::{Answer, answer_to};
-use crate::command::Command;
+use gasday_words::Command;
 use gd_replies::Reply;
 use gd_text_part::write_bytes;
 use std::alloc::{AllocError, Global};

@@ -1,6 +1,7 @@
 //! `run` from text to answer, with readers and writers that do little or fail.
 
-use gasday_part::{Command, run};
+use gasday_part::run;
+use gasday_words::Command;
 use std::alloc::{AllocError, Global};
 use std::io;
 use std::io::{Read, Write};

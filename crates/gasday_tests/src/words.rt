@@ -1,9 +1,9 @@
 //! Which words are taken, and what the texts say.
 
-use gasday_part::{Command, UsageFault, command_of};
+use gasday_words::{Command, Order, UsageFault, order_of};
 use std::test::Fail;
 
-const LINES: [(&[&str], &str); 37] = [
+const LINES: [(&[&str], &str); 48] = [
     (&[], "allowed"),
     (&["gasday"], "allowed"),
     (&["gasday", "check", "allowed"], "allowed"),
@@ -31,6 +31,17 @@ const LINES: [(&[&str], &str); 37] = [
     (&["gasday", "office", "--help"], "help of office"),
     (&["gasday", "day", "2026-03-08"], "usage"),
     (&["gasday", "office", "2"], "usage"),
+    (&["gasday", "day", "--archive", "a.db"], "archived day"),
+    (&["gasday", "day", "--archive=a.db"], "archived day"),
+    (&["gasday", "day", "--archive"], "usage"),
+    (&["gasday", "audit", "a.db"], "audit"),
+    (&["gasday", "migrate", "a.db"], "migrate"),
+    (&["gasday", "audit"], "usage"),
+    (&["gasday", "audit", "a.db", "b.db"], "usage"),
+    (&["gasday", "migrate"], "usage"),
+    (&["gasday", "audit", "--help"], "help of audit"),
+    (&["gasday", "migrate", "--help"], "help of migrate"),
+    (&["gasday", "office", "--archive", "a.db"], "usage"),
     (&["gasday", "nonsense"], "usage"),
     (&["gasday", ""], "usage"),
     (&["gasday", "Check", "allowed"], "usage"),
@@ -43,16 +54,33 @@ const LINES: [(&[&str], &str); 37] = [
     (&["gasday", "check", "allowed", "--nonsense"], "usage"),
 ];
 
+fn command_name(command: Command) -> &'static str {
+    match command {
+        Command::CheckAllowed => "allowed",
+        Command::CheckBest => "best",
+        Command::CheckCut => "cut",
+        Command::Solve => "solve",
+        Command::Calendar => "calendar",
+        Command::Day => "day",
+        Command::Office => "office",
+    }
+}
+
+/// The name of an order on the archive a.db, and else nothing.
+fn order_name(order: Order<'_>) -> &'static str {
+    match order {
+        Order::Text(command) => command_name(command),
+        Order::ArchivedDay("a.db") => "archived day",
+        Order::Audit("a.db") => "audit",
+        Order::Migrate("a.db") => "migrate",
+        _ => "another archive",
+    }
+}
+
 /// The kind of the answer, with its text, or None where memory is short.
 fn told(rt: &HostRuntime, words: &[&str]) -> Option<(&'static str, String)> {
-    match command_of(rt.alloc(), words) {
-        Ok(Command::CheckAllowed) => Some(("allowed", String::new(rt.alloc()))),
-        Ok(Command::CheckBest) => Some(("best", String::new(rt.alloc()))),
-        Ok(Command::CheckCut) => Some(("cut", String::new(rt.alloc()))),
-        Ok(Command::Solve) => Some(("solve", String::new(rt.alloc()))),
-        Ok(Command::Calendar) => Some(("calendar", String::new(rt.alloc()))),
-        Ok(Command::Day) => Some(("day", String::new(rt.alloc()))),
-        Ok(Command::Office) => Some(("office", String::new(rt.alloc()))),
+    match order_of(rt.alloc(), words) {
+        Ok(order) => Some((order_name(order), String::new(rt.alloc()))),
         Err(UsageFault::Help(text)) => Some(("help", text)),
         Err(UsageFault::Usage(text)) => Some(("usage", text)),
         Err(UsageFault::OutOfMemory) => None,
@@ -75,6 +103,10 @@ fn reads_well(answer: &str, text: &str) -> bool {
         "help of office" => {
             text.contains("\n  gasday office < examples/office/two-books.csv\n")
                 && text.ends_with('\n')
+        }
+        "help of audit" => text.contains("\n  gasday audit postings.db\n") && text.ends_with('\n'),
+        "help of migrate" => {
+            text.contains("\n  gasday migrate postings.db\n") && text.ends_with('\n')
         }
         "help" => {
             text.contains("'check allowed'")
@@ -99,7 +131,7 @@ fn each_line_has_its_answer(rt: HostRuntime) -> Result<(), Fail> {
 #[test]
 fn a_fault_is_shown_by_its_text(rt: HostRuntime) -> Result<(), Fail> {
     let alloc = rt.alloc();
-    let Err(fault) = command_of(alloc, &["gasday", "check", "all"]) else {
+    let Err(fault) = order_of(alloc, &["gasday", "check", "all"]) else {
         return Err(Fail::from("there is no such check"));
     };
     let shown = fault.to_string(alloc)?;

@@ -22,7 +22,7 @@ pub sound_kept : (day : Day) (t : Tables) (h : History) → AreKept day t h → 
 sound_kept day t h kept = sound day kept.opened h kept.legal kept.passed
 
 -- an element of a list with one more is one of the list, or the last
-at_more : {X : Type 0} (h : List X) (p : X) (k : ℕ) (q : X) → slice_get (h ++ p ∷ []) k ≡ Some q → ((k < length h) × (slice_get h k ≡ Some q)) ⊎ ((k ≡ length h) × (q ≡ p))
+pub at_more : {X : Type 0} (h : List X) (p : X) (k : ℕ) (q : X) → slice_get (h ++ p ∷ []) k ≡ Some q → ((k < length h) × (slice_get h k ≡ Some q)) ⊎ ((k ≡ length h) × (q ≡ p))
 at_more [] p zero q at = inr (refl, cc)
 at_more [] p (suc k) q at = absurd (let w = slice_get_within (p ∷ []) (suc k) q at in omega (arith, w))
 at_more (x ∷ h) p zero q at = inl (omega arith, at)

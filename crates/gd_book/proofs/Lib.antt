@@ -1,2 +1,3 @@
 mod Legal
+pub mod Posting
 mod Replaying

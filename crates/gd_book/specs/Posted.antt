@@ -1,9 +1,11 @@
 -- What is known of the board after a publish.
-use Rattle.std.specs.Prelude.{◌≡◌, Option, Some, None}
+use Rattle.std.specs.Prelude.{◌≡◌, ℕ, Option, Some, None, take, slice_get}
+use Rattle.gd_board.specs.Known.{Knowledge, known_of}
 use Rattle.gd_board.specs.declared.posting.Posting.{Posting}
 use Rattle.gd_certificate.specs.Checked.{Certificate}
 use Rattle.gd_machine.specs.declared.event.Event.{Event}
 use Rattle.gd_machine.specs.declared.event.Event.TheVariants.{Publish}
+use Rattle.gd_machine.specs.declared.reply.Reply.{Reply}
 use Rattle.gd_machine.specs.Day.{Day}
 use Rattle.gd_machine.specs.History.{History, cycle_of, round_of}
 use Rattle.gd_machine.specs.Asked.{bumped_lines}
@@ -27,3 +29,9 @@ IsPosted day h certificate (Some posting) = Tells day h certificate posting
 abbrev pub Posts : Day → History → Option Posting → Event → Type 0
 Posts day h known (Publish moment certificate) = IsPosted day h certificate known
 Posts day h known event = Unit {0}
+
+-- Of each publish of a history a posting is known, in the cell of its cycle.
+abbrev pub AllPosted : Day → History → Knowledge → Type 0
+AllPosted day h known =
+    (k : ℕ) (p : Event × Reply) → slice_get h k ≡ Some p
+    → Posts day (take k h) (known_of known (cycle_of (take k h))) p.0

@@ -9,7 +9,7 @@ ghost use Rattle.gd_machine.specs.Headline.{Holds};
 ghost use Rattle.gd_machine.specs.Machine.{Step, IsLegal, AllPass, refusal_of, reply_of, Passes};
 ghost use Rattle.gd_machine.specs.declared.event.Event.TheVariants as event;
 ghost use Rattle.gd_book_part.specs.Names.{ExplainsOpen};
-ghost use Rattle.gd_book.specs.Posted.{IsPosted};
+ghost use Rattle.gd_book.specs.Posted.{AllPosted, IsPosted};
 
 use crate::ledger::Ledger;
 use crate::replay::Replay;
@@ -190,6 +190,8 @@ impl Book {
         ensures board { note.new.cells ≡ note.old.cells }
         ensures posted { OnOk result (IsPosted self.old.day self.old.history certificate
             (known_of note.new (cycle_of self.old.history))) }
+        ensures all_posted { AllPosted self.old.day self.old.history note.old
+            → AllPosted self.old.day self.new.history note.new }
     {
         certificate.known();
         let event = Event::Publish {

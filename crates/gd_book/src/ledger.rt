@@ -2,12 +2,12 @@
 
 ghost use Rattle.std.specs.Prelude.{◌≡◌, ◌<◌, ◌++◌, ◌∷◌, [], None, IfOk, OnOk, OnErr, IfErr};
 ghost use Rattle.std.specs.Vec.{vec_len, vec_capacity};
-ghost use Rattle.gd_board.specs.Known.{known_of};
+ghost use Rattle.gd_board.specs.Known.{StaysKnown, known_of};
 ghost use Rattle.gd_machine.specs.History.{cycle_of};
 ghost use Rattle.gd_machine.specs.Machine.{Step, MayRefuse, Passes, IsPublish, refusal_of, reply_of};
 ghost use Rattle.gd_machine.specs.declared.event.Event.TheVariants as event;
 ghost use Rattle.gd_book.specs.Kept.{IsKept};
-ghost use Rattle.gd_book.specs.Posted.{Posts, Tells};
+ghost use Rattle.gd_book.specs.Posted.{AllPosted, Posts, Tells};
 
 use gd_board::{Board, BoardNote, Posting};
 use gd_book_part::{Opening, Tables};
@@ -181,6 +181,7 @@ impl Ledger {
         ensures board { note.new.cells ≡ note.old.cells }
         ensures posted { OnOk result (Posts self.old.opening self.old.history.items
             (known_of note.new (cycle_of self.old.history.items)) event.now) }
+        ensures stays { StaysKnown note.old note.new }
     {
         self.ready(event)?;
         let (reply, told) = self.replies(alloc, event)?;
@@ -217,6 +218,8 @@ impl Ledger {
         ensures board { note.new.cells ≡ note.old.cells }
         ensures posted { OnOk result (Posts self.old.opening self.old.history.items
             (known_of note.new (cycle_of self.old.history.items)) event) }
+        ensures all_posted { AllPosted self.old.opening self.old.history.items note.old
+            → AllPosted self.old.opening self.new.history.items note.new }
     {
         let (reply, told) = self.post(alloc, &event, board, note)?;
         self.close(event, reply);

@@ -1,3 +1,4 @@
 pub mod Last
 pub mod Running
 pub mod Publishing
+pub mod Posting

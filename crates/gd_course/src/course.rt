@@ -3,6 +3,7 @@
 ghost use Rattle.std.specs.Prelude.{◌≡◌, [], ◌∷◌, length as len_of, OnOk, OnErr};
 ghost use Rattle.gd_day.specs.Calls.{calls_of};
 ghost use Rattle.gd_day.specs.Groups.{AllPass};
+ghost use Rattle.gd_book.specs.Posted.{AllPosted};
 ghost use Rattle.gd_course.specs.Course as spec;
 
 use crate::event::make_call;
@@ -35,6 +36,8 @@ pub fn run(
         (calls_of rows.now) told.new.items) }
     ensures day { book.new.day ≡ book.old.day }
     ensures board { note.new.cells ≡ note.old.cells }
+    ensures posted { OnOk result (AllPosted book.old.day book.old.history note.old
+        → AllPosted book.old.day book.new.history note.new) }
 {
     let mut start = 0;
     'rows: for (at, row) in rows.iter().enumerate() {

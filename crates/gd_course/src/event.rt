@@ -1,9 +1,10 @@
 //! One call of a day's text.
 
-ghost use Rattle.std.specs.Prelude.{◌≡◌, ◌-◌, IfOk};
+ghost use Rattle.std.specs.Prelude.{◌≡◌, ◌-◌, IfOk, OnOk};
 ghost use Rattle.gd_day.specs.Groups.{Passes};
 ghost use Rattle.gd_day.specs.Named as named;
 ghost use Rattle.gd_machine.specs.declared.event.Event.TheVariants as event;
+ghost use Rattle.gd_book.specs.Posted.{AllPosted};
 ghost use Rattle.gd_course.specs.Course as spec;
 ghost use Rattle.gd_course.specs.Told.{Steps};
 
@@ -124,6 +125,8 @@ fn publish(
         rows.items book.new.history) }
     ensures day { book.new.day ≡ book.old.day }
     ensures board { note.new.cells ≡ note.old.cells }
+    ensures posted { OnOk result (AllPosted book.old.day book.old.history note.old
+        → AllPosted book.old.day book.new.history note.new) }
 {
     let Some(question) = book.frozen() else {
         return one_row(alloc, refused_reply(Call::Publish, Refusal::NotFrozen));
@@ -177,6 +180,8 @@ pub(crate) fn make_call(
         rows.items book.new.history) }
     ensures day { book.new.day ≡ book.old.day }
     ensures board { note.new.cells ≡ note.old.cells }
+    ensures posted { OnOk result (AllPosted book.old.day book.old.history note.old
+        → AllPosted book.old.day book.new.history note.new) }
 {
     match row {
         EventRow::Nominate {

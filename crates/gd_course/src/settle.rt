@@ -1,12 +1,13 @@
 //! A frozen question is answered: by what is offered for it, or by what is found.
 
-ghost use Rattle.std.specs.Prelude.{◌≡◌, IfOk, map, true};
+ghost use Rattle.std.specs.Prelude.{◌≡◌, IfOk, OnOk, map, true};
 ghost use Rattle.gd_rules.specs.Schedule.{IsAllowed};
 ghost use Rattle.gd_rules.specs.Tariff.{IsPricedByTariff};
 ghost use Rattle.gd_cost.specs.Parts.{class_words};
 ghost use Rattle.gd_machine.specs.History.{is_frozen};
 ghost use Rattle.gd_machine.specs.Asked.{question as question_of};
 ghost use Rattle.gd_machine.specs.declared.event.Event.TheVariants as event;
+ghost use Rattle.gd_book.specs.Posted.{AllPosted};
 ghost use Rattle.gd_course.specs.Course as spec;
 ghost use Rattle.gd_course.specs.Told.{Steps};
 
@@ -58,6 +59,8 @@ pub(crate) fn publish_frozen(
         rows.items book.new.history) }
     ensures day { book.new.day ≡ book.old.day }
     ensures board { note.new.cells ≡ note.old.cells }
+    ensures posted { OnOk result (AllPosted book.old.day book.old.history note.old
+        → AllPosted book.old.day book.new.history note.new) }
 {
     let question = frozen_copy(alloc, book)?;
     let Offer {
@@ -98,6 +101,8 @@ fn publish_found(
         rows.items book.new.history) }
     ensures day { book.new.day ≡ book.old.day }
     ensures board { note.new.cells ≡ note.old.cells }
+    ensures posted { OnOk result (AllPosted book.old.day book.old.history note.old
+        → AllPosted book.old.day book.new.history note.new) }
 {
     let question = frozen_copy(alloc, book)?;
     let Offer {
@@ -148,6 +153,8 @@ pub(crate) fn settle(
         rows.items book.new.history) }
     ensures day { book.new.day ≡ book.old.day }
     ensures board { note.new.cells ≡ note.old.cells }
+    ensures posted { OnOk result (AllPosted book.old.day book.old.history note.old
+        → AllPosted book.old.day book.new.history note.new) }
 {
     let Some(question) = book.frozen() else {
         return one_row(alloc, refused_reply(Call::Settle, Refusal::NotFrozen));

@@ -92,6 +92,14 @@ fields_of (reply.Missing k count) =
     codes "refused" ∷ codes "close" ∷ codes "3" ∷ codes "Missing" ∷ decimal count ∷ decimal k ∷ []
 fields_of reply.NoThread = codes "fault" ∷ codes "0" ∷ codes "NoThread" ∷ []
 fields_of reply.TooMany = codes "fault" ∷ codes "0" ∷ codes "TooMany" ∷ []
+fields_of reply.Kept = codes "refused" ∷ codes "keep" ∷ codes "1" ∷ codes "Kept" ∷ []
+fields_of (reply.Audited n) = codes "audited" ∷ decimal n ∷ []
+fields_of (reply.Damaged book cycle) = codes "unsound" ∷ book ∷ decimal cycle ∷ codes "Damaged" ∷ []
+fields_of (reply.Unsound book cycle fault) = codes "unsound" ∷ book ∷ decimal cycle ∷ cert_fault_name fault ∷ []
+fields_of (reply.Migrated n) = codes "migrated" ∷ decimal n ∷ []
+fields_of reply.OtherVersion = codes "refused" ∷ codes "migrate" ∷ codes "1" ∷ codes "OtherVersion" ∷ []
+fields_of reply.Store = codes "fault" ∷ codes "0" ∷ codes "Store" ∷ []
+fields_of reply.OldVersion = codes "fault" ∷ codes "0" ∷ codes "OldVersion" ∷ []
 
 -- the bytes of a reply
 abbrev pub line_of : Reply → List ℕ

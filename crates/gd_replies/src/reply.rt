@@ -169,6 +169,29 @@ pub enum Reply {
     NoThread,
     /// One more session of a slot is to be opened than may be open at a time.
     TooMany,
+    /// An archive keeps a posting of this book and cycle already.
+    Kept,
+    /// Each of an archive's postings, which are so many, is sound.
+    Audited(u64),
+    /// What an archive keeps of this book and cycle is no posting, or another one's.
+    Damaged {
+        book: Name,
+        cycle: u64,
+    },
+    /// The posting that an archive keeps of this book and cycle doesn't pass its check.
+    Unsound {
+        book: Name,
+        cycle: u64,
+        fault: CertFault,
+    },
+    /// So many postings were carried over from version 1 of an archive.
+    Migrated(u64),
+    /// The archive isn't of version 1.
+    OtherVersion,
+    /// An archive can't be opened, read or written, or the file is none.
+    Store,
+    /// The archive is of version 1.
+    OldVersion,
 }
 
 /// A word of the spread as a field, which is empty where the word is 0.
@@ -344,6 +367,16 @@ impl fmt::Display for Reply {
             }
             Reply::NoThread => f.write_str("fault,0,NoThread,,,,,\n"),
             Reply::TooMany => f.write_str("fault,0,TooMany,,,,,\n"),
+            Reply::Kept => f.write_str("refused,keep,1,Kept,,,,\n"),
+            Reply::Audited(count) => write!(f, "audited,{count},,,,,,\n"),
+            Reply::Damaged { book, cycle } => write!(f, "unsound,{book},{cycle},Damaged,,,,\n"),
+            Reply::Unsound { book, cycle, fault } => {
+                write!(f, "unsound,{book},{cycle},{fault},,,,\n")
+            }
+            Reply::Migrated(count) => write!(f, "migrated,{count},,,,,,\n"),
+            Reply::OtherVersion => f.write_str("refused,migrate,1,OtherVersion,,,,\n"),
+            Reply::Store => f.write_str("fault,0,Store,,,,,\n"),
+            Reply::OldVersion => f.write_str("fault,0,OldVersion,,,,,\n"),
         }
     }
 }

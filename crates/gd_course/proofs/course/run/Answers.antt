@@ -14,6 +14,7 @@ rows-preserved-in_default g c =
       day = kept.day;
       board = kept.board;
       cells = kept.cells;
+      posted = kept.posted;
     }
 
 pub returns-clause-ok : goal.returns-clause-ok
@@ -41,4 +42,5 @@ rows-preserved g c =
       day = c.make_call.ensures.day ∙ kept.day;
       board = c.make_call.ensures.board ∙ kept.board;
       cells = c.make_call.ensures.board ∙ kept.cells;
+      posted = λ all. let goes_on = rw kept.day at c.in_ok-answer.ensures.posted in goes_on (kept.posted all);
     }

@@ -4,6 +4,7 @@ use Rattle.gd_question.specs.Posed.{Posed}
 use Rattle.gd_certificate.specs.Checked.{Certificate}
 use Rattle.gd_machine.specs.declared.event.Event.TheVariants as event
 use Rattle.gd_course.specs.Course.{certificate_of}
+use Rattle.gd_course.proofs.Posting.{always}
 use Rattle.gd_course.proofs.Publishing.{found}
 use Rattle.gd_course.proofs.settle.publish_found.Goals as goal
 
@@ -19,3 +20,6 @@ returns-in-Ok-clause-gives g c =
     IfOk-weaker c.tell.result _ _
     (λ rows t. found day h offer.moment offer.schedule offer.prices certificate c.publish-answer.result rows.items c.publish-answer.new.self.history same c.in-Ok.ensures.right c.publish-answer.ensures.step c.requires.frozen t)
     (told c.publish-answer.ensures.step)
+
+pub returns-in-Ok-clause-posted : goal.returns-in-Ok-clause-posted
+returns-in-Ok-clause-posted g c = always c.tell.result c.publish-answer.ensures.all_posted

@@ -4,6 +4,7 @@ use Rattle.gd_question.specs.Posed.{Posed}
 use Rattle.gd_certificate.specs.Checked.{Certificate}
 use Rattle.gd_machine.specs.declared.event.Event.TheVariants as event
 use Rattle.gd_course.specs.Course.{certificate_of}
+use Rattle.gd_course.proofs.Posting.{always}
 use Rattle.gd_course.proofs.Publishing.{offered, explained, refused}
 use Rattle.gd_course.proofs.settle.publish_frozen.Goals as goal
 
@@ -35,3 +36,6 @@ returns-in_ok-uncertified_reply-in-Err-clause-gives g c =
     (λ rows is. refused day h offer.moment offer.schedule offer.prices c.in_ok-question.question offer.schedule offer.prices c.in-Err.fault c.in_ok-uncertified_reply-in-Err.field-0 rows.items
     (sym c.in_ok-question.ensures) refl refl c.in-Err.ensures.fault (rw kept.0 at c.in_ok-uncertified_reply-in-Err.ensures.told) is)
     c.one_row.ensures
+
+pub returns-in-Ok-clause-posted : goal.returns-in-Ok-clause-posted
+returns-in-Ok-clause-posted g c = always c.tell.result c.publish-answer.ensures.all_posted

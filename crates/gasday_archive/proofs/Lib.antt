@@ -1,0 +1,4 @@
+mod Keeping
+mod Published
+mod Running
+mod Telling

@@ -1,0 +1,22 @@
+use Rattle.std.proofs.Common.{inl, inr, refl}
+use Rattle.gasday_archive.specs.Archives.{made_fault}
+use Rattle.gasday_part.specs.AnswerSeen.{answer_seen}
+use Rattle.gasday_archive.proofs.day.tell_in_archive.Goals as goal
+
+pub returns-in-Ok : goal.returns-in-Ok
+returns-in-Ok g c = record {
+  made = record {
+    told = answer_seen c.tell_calls.result;
+    means = λ clean. inl (c.make.new.conn, c.in-Ok.ensures.made (c.tell_calls.ensures.clean clean), c.tell_calls.ensures.kept clean);
+    is = refl;
+  };
+}
+
+pub returns-in-Err : goal.returns-in-Err
+returns-in-Err g c = record {
+  made = record {
+    told = made_fault c.in-Err.fault;
+    means = λ clean. inr (c.in-Err.fault, c.in-Err.ensures.made clean, refl);
+    is = c.of_unmade.ensures;
+  };
+}

@@ -1,0 +1,19 @@
+use Rattle.std.proofs.Common.{◌≡◌, Result, Some, IfOk, refl, sym, subst}
+use Rattle.gasday_part.specs.AnswerSeen.{answer_seen}
+use Rattle.gasday_archive.specs.Archives.{audited, no_store}
+use Rattle.gasday_archive.specs.Runs.{TellsAudit, TellsOf}
+use Rattle.gasday_archive.proofs.opened.tell_audit.Goals as goal
+
+pub returns-in_default : goal.returns-in_default
+returns-in_default g c = record {
+  told = no_store;
+  means = subst (λ o. TellsOf g.S.Store (TellsAudit g.S.Store) o c.unopened.result.archive no_store) (sym c.in_default.is) (c.unopened.ensures.archive, refl);
+  is = subst (λ r. IfOk r (λ a. answer_seen a ≡ no_store)) (sym c.unopened.ensures.answer) c.of_no_store.ensures;
+}
+
+pub returns : goal.returns
+returns g c = record {
+  told = audited c.audit-found.result;
+  means = subst (λ o. TellsOf g.S.Store (TellsAudit g.S.Store) o (Some c.audit-found.new.conn) (audited c.audit-found.result)) (sym c.in-Ok.is) (λ clean. (c.audit-found.result, c.audit-found.ensures.audited clean, refl));
+  is = c.of_audit.ensures;
+}

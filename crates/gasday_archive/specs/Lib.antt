@@ -1,0 +1,4 @@
+pub mod Archives
+pub mod Keeping
+pub mod Runs
+pub mod Orders

@@ -1,0 +1,93 @@
+//! A gas day whose postings are kept.
+
+ghost use Rattle.std.specs.Prelude.{◌≡◌, [], ◌∷◌, ◌++◌, IfOk, OnErr};
+ghost use Rattle.sqlite.specs.Held.{state};
+ghost use Rattle.sqlite.specs.State.{HasCleanDisk};
+ghost use Rattle.gd_day.specs.Calls.{calls_of};
+ghost use Rattle.gd_day.specs.Groups.{AllPass};
+ghost use Rattle.gd_course.specs.Course.{RunsInPart};
+ghost use Rattle.gasday_part.specs.AnswerSeen.{answer_seen};
+ghost use Rattle.gasday_part.specs.Answers.{no_memory};
+ghost use Rattle.gasday_archive.specs.Runs as spec;
+
+use crate::answer::of_unmade;
+use crate::keeps::keep_published;
+use gasday_part::Answer;
+use gd_archive::make;
+use gd_board::Board;
+use gd_book::Book;
+use gd_course::run;
+use gd_replies::Reply;
+use gd_text_part::Row;
+use sqlite::{Alter, Connection};
+use std::alloc::{AllocError, Global};
+use std::thread::Threads;
+
+/// Makes the calls of the rows on a new book, and keeps what it published. It appends to `told` what they give, and answers
+/// the exit status. The only error is want of memory: then nothing is kept, and `told` has what the first calls give.
+fn run_and_keep<S: Alter>(
+    rt: &(impl Threads + Sync),
+    alloc: Global,
+    conn: &mut Connection<S>,
+    book: &mut Book,
+    rows: &[Row],
+    told: &mut Vec<Reply>,
+) -> Result<u8, AllocError>
+    requires new { book.old.history ≡ [] }
+    requires pass { AllPass book.old.day.held.pipeline (calls_of rows.now) }
+    requires empty { told.old.items ≡ [] }
+    ensures kept { HasCleanDisk (state S.Store conn.new) → IfOk result (spec.KeepsRun
+        S.Store book.old.day (calls_of rows.now) conn.old conn.new told.new.items) }
+    ensures clean { HasCleanDisk (state S.Store conn.new) → HasCleanDisk (state S.Store conn.old) }
+    ensures short { OnErr result (conn.new ≡ conn.old) }
+    ensures part { OnErr result (RunsInPart book.old.day [] (calls_of rows.now) told.new.items) }
+{
+    let board = Board::new(alloc);
+    let mut note = board.note();
+    run(rt, alloc, book, &board, &mut note, rows, told)?;
+    keep_published(conn, alloc, book, &board, &mut note, told)
+}
+
+/// Makes the calls of the rows on a new book, and keeps what it published, and tells both.
+fn tell_calls<S: Alter>(
+    rt: &(impl Threads + Sync),
+    alloc: Global,
+    conn: &mut Connection<S>,
+    book: &mut Book,
+    rows: &[Row],
+) -> Answer
+    requires new { book.old.history ≡ [] }
+    requires pass { AllPass book.old.day.held.pipeline (calls_of rows.now) }
+    ensures kept { HasCleanDisk (state S.Store conn.new) → spec.TellsKept S.Store
+        book.old.day (calls_of rows.now) conn.old conn.new (answer_seen result) }
+    ensures clean { HasCleanDisk (state S.Store conn.new) → HasCleanDisk (state S.Store conn.old) }
+{
+    let mut replies = Vec::new(alloc);
+    match run_and_keep(rt, alloc, conn, book, rows, &mut replies) {
+        Ok(status) => Answer::whole(replies, status),
+        Err(_) => Answer {
+            replies,
+            status: 2,
+            short: true,
+        },
+    }
+}
+
+/// Makes the archive where there is none, and then the calls of the rows on a new book.
+pub(crate) fn tell_in_archive<S: Alter>(
+    rt: &(impl Threads + Sync),
+    alloc: Global,
+    conn: &mut Connection<S>,
+    book: &mut Book,
+    rows: &[Row],
+) -> Result<Answer, AllocError>
+    requires new { book.old.history ≡ [] }
+    requires pass { AllPass book.old.day.held.pipeline (calls_of rows.now) }
+    ensures made { spec.Tells (λ a. HasCleanDisk (state S.Store conn.new) → spec.TellsMade S.Store
+        book.old.day (calls_of rows.now) conn.old conn.new a) result }
+{
+    match make(conn) {
+        Ok(()) => Ok(tell_calls(rt, alloc, conn, book, rows)),
+        Err(fault) => of_unmade(alloc, fault),
+    }
+}

@@ -1,0 +1,194 @@
+//! What is done with an archive that the opener gives.
+
+ghost use Rattle.std.specs.Prelude.{◌≡◌, [], None, IfSome};
+ghost use Rattle.gd_day.specs.Calls.{calls_of};
+ghost use Rattle.gd_day.specs.Groups.{AllPass};
+ghost use Rattle.gd_day.specs.Opened.{opened_of};
+ghost use Rattle.gasday_archive.specs.Runs as spec;
+
+use crate::answer::{of_audit, of_migration, of_no_store};
+use crate::day::tell_in_archive;
+use gasday_part::{Answer, calendar_of, of_fault, of_no_calendar};
+use gd_archive::{audit, migrate};
+use gd_book::Book;
+use gd_day::{DayText, day_text_of};
+use gd_text_part::{Form, Row, read_bytes, rows_in};
+use sqlite::{Alter, Connection, Error};
+use std::alloc::{AllocError, Global};
+use std::io::Read;
+use std::thread::Threads;
+
+/// Who opens the archive of an order.
+pub trait Opener<S: Alter + Drop>: Drop {
+    ghost use Rattle.std.specs.Prelude.{Result};
+    ghost use Rattle.sqlite.specs.Held.{Held};
+    ghost use Rattle.sqlite.specs.declared.error.Error.{Error as AnError};
+
+    // What it may give.
+    ghost opens: { Self → Result (Held S) AnError → Type 0 };
+
+    /// The archive, or why it can't be opened.
+    fn open(self) -> Result<Connection<S>, Error>
+        ensures { opens self result };
+}
+
+/// What is told, and the archive that was opened, as it is left. The only error is want of memory.
+#[derive(Drop)]
+pub(crate) struct Outcome<S: Alter + Drop> {
+    pub(crate) answer: Result<Answer, AllocError>,
+    pub(crate) archive: Option<Connection<S>>,
+}
+
+impl<S: Alter + Drop> Outcome<S> {
+    /// An answer for which nothing is open.
+    fn unopened(answer: Result<Answer, AllocError>) -> Outcome<S>
+        ensures answer { result.answer ≡ answer }
+        ensures archive { result.archive ≡ None }
+    {
+        Outcome {
+            answer,
+            archive: None,
+        }
+    }
+}
+
+/// Audits what was opened.
+pub(crate) fn tell_audit<S: Alter + Drop>(
+    alloc: Global,
+    opened: Result<Connection<S>, Error>,
+) -> Outcome<S>
+    ensures { spec.Tells (spec.TellsOf S.Store (spec.TellsAudit S.Store) opened result.archive)
+        result.answer }
+{
+    let Ok(mut conn) = opened else {
+        return Outcome::unopened(of_no_store(alloc));
+    };
+    let found = audit(&mut conn, alloc);
+    Outcome {
+        answer: of_audit(alloc, &found),
+        archive: Some(conn),
+    }
+}
+
+/// Migrates what was opened.
+pub(crate) fn tell_migration<S: Alter + Drop>(
+    alloc: Global,
+    opened: Result<Connection<S>, Error>,
+) -> Outcome<S>
+    ensures { spec.Tells (spec.TellsOf S.Store (spec.TellsMigration S.Store) opened result.archive)
+        result.answer }
+{
+    let Ok(mut conn) = opened else {
+        return Outcome::unopened(of_no_store(alloc));
+    };
+    let carried = migrate(&mut conn, alloc);
+    Outcome {
+        answer: of_migration(alloc, carried),
+        archive: Some(conn),
+    }
+}
+
+/// The course of a gas day on its new book, in what was opened.
+fn tell_book<S: Alter + Drop>(
+    rt: &(impl Threads + Sync),
+    alloc: Global,
+    opened: Result<Connection<S>, Error>,
+    book: &mut Book,
+    rows: &[Row],
+) -> Outcome<S>
+    requires new { book.old.history ≡ [] }
+    requires pass { AllPass book.old.day.held.pipeline (calls_of rows.now) }
+    ensures { spec.Tells (spec.TellsOf S.Store (spec.TellsMade S.Store book.old.day (calls_of rows.now))
+        opened result.archive) result.answer }
+{
+    let Ok(mut conn) = opened else {
+        return Outcome::unopened(of_no_store(alloc));
+    };
+    let answer = tell_in_archive(rt, alloc, &mut conn, book, rows);
+    Outcome {
+        answer,
+        archive: Some(conn),
+    }
+}
+
+/// The course of the gas day of a text, on the book that it opens, in the archive that the opener gives.
+fn tell_text<S: Alter + Drop, O: Opener<S>>(
+    rt: &(impl Threads + Sync),
+    alloc: Global,
+    text: DayText,
+    rows: &[Row],
+    opener: O,
+) -> Outcome<S>
+    requires pass { AllPass text.contracts.pipeline (calls_of rows.now) }
+    ensures { spec.Tells (spec.OrNoMemory (spec.TellsDate S.Store (O.Opener.opens opener) rows.now (record {
+      date = text.date;
+      zone = text.zone;
+      book = text.book;
+      held = text.contracts;
+      carry = text.carry.items;
+    })) result.archive) result.answer }
+{
+    let DayText {
+        date,
+        zone,
+        book,
+        contracts,
+        carry,
+    } = text;
+    match calendar_of(alloc, date, &zone) {
+        Ok(calendar) => match Book::open(alloc, book, contracts, calendar, carry) {
+            Ok(mut book) => tell_book(rt, alloc, opener.open(), &mut book, rows),
+            // No line is carried over twice, so that nothing but memory can be wanting.
+            Err(_) => Outcome::unopened(Err(AllocError)),
+        },
+        Err(fault) => Outcome::unopened(of_no_calendar(alloc, fault)),
+    }
+}
+
+/// The course of the gas day that the rows tell, in the archive that the opener gives.
+fn tell_rows<S: Alter + Drop, O: Opener<S>>(
+    rt: &(impl Threads + Sync),
+    alloc: Global,
+    rows: &[Row],
+    opener: O,
+) -> Outcome<S>
+    ensures { spec.Tells (spec.OrNoMemory (spec.TellsDay S.Store (O.Opener.opens opener) rows.now
+        (opened_of rows.now)) result.archive) result.answer }
+{
+    match day_text_of(alloc, rows) {
+        Ok(text) => tell_text(rt, alloc, text, rows, opener),
+        Err(fault) => Outcome::unopened(of_fault(alloc, fault)),
+    }
+}
+
+/// The course of the gas day of these bytes, in the archive that the opener gives.
+fn tell_bytes<S: Alter + Drop, O: Opener<S>>(
+    rt: &(impl Threads + Sync),
+    alloc: Global,
+    text: &[u8],
+    opener: O,
+) -> Outcome<S>
+    ensures { spec.Tells (spec.OrNoMemory (spec.TellsBytes S.Store (O.Opener.opens opener) text.now)
+        result.archive) result.answer }
+{
+    match rows_in(alloc, Form::Day, text) {
+        Ok(rows) => tell_rows(rt, alloc, rows.as_slice(), opener),
+        Err(fault) => Outcome::unopened(of_fault(alloc, fault)),
+    }
+}
+
+/// The course of the gas day that a reader's text tells, in the archive that the opener gives.
+pub(crate) fn tell_day<S: Alter + Drop, R: Read, O: Opener<S>>(
+    rt: &(impl Threads + Sync),
+    alloc: Global,
+    reader: &mut R,
+    opener: O,
+) -> Outcome<S>
+    ensures { IfSome (R.remaining reader.old) (λ text. spec.Tells (spec.OrNoMemory (spec.TellsText S.Store
+        (O.Opener.opens opener) text) result.archive) result.answer) }
+{
+    match read_bytes(alloc, reader) {
+        Ok(text) => tell_bytes(rt, alloc, text.as_slice(), opener),
+        Err(fault) => Outcome::unopened(of_fault(alloc, fault)),
+    }
+}

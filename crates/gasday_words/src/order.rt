@@ -1,0 +1,103 @@
+//! The orders, and which of them the matches of the command line name.
+
+ghost use Rattle.std.specs.Prelude.{◌≡◌, option_map};
+ghost use Rattle.clap.specs.Words.{first_of, found_of, rows_of, subcommand_rows_of};
+ghost use Rattle.gasday_words.specs.Meaning as spec;
+ghost use Rattle.gasday_words.specs.Ordered.{seen};
+
+use clap::ArgMatches;
+
+/// A command that answers a text from standard input.
+#[derive(Clone, Copy, Debug, PartialEq, Eq)]
+pub enum Command {
+    /// Tells whether the schedule behind a question is allowed, and its total by class.
+    CheckAllowed,
+    /// Tells whether prices show that the schedule is best.
+    CheckBest,
+    /// Tells whether a set shows that no schedule is allowed.
+    CheckCut,
+    /// Tells a best schedule with prices that show it best, or a set that shows that no schedule is allowed.
+    Solve,
+    /// Tells the moments of a gas day's five cycles, and its hours.
+    Calendar,
+    /// Makes the calls of a gas day on its book, and tells what each gives.
+    Day,
+    /// Runs an office of several gas days, with sessions and desks in threads, and holds all receipts against its books.
+    Office,
+}
+
+/// What the words ask for.
+#[derive(Clone, Copy, Debug, PartialEq, Eq)]
+pub enum Order<'a> {
+    /// A command that needs no archive.
+    Text(Command),
+    /// `day --archive FILE`: as `day`, and what is published is kept in the archive.
+    ArchivedDay(&'a str),
+    /// `audit FILE`: checks each posting of an archive.
+    Audit(&'a str),
+    /// `migrate FILE`: brings an archive of version 1 to version 2.
+    Migrate(&'a str),
+}
+
+/// The check that the word after `check` names.
+fn check_named(word: Option<&str>) -> Option<Command>
+    ensures { result ≡ spec.check_named (option_map (λ w. w.now) word.entry) }
+{
+    match word {
+        Some("allowed") => Some(Command::CheckAllowed),
+        Some("best") => Some(Command::CheckBest),
+        Some("cut") => Some(Command::CheckCut),
+        _ => None,
+    }
+}
+
+/// A gas day, kept in the archive where there is one.
+fn day_kept_in<'a>(archive: Option<&'a str>) -> Order<'a>
+    ensures { seen result ≡ spec.day_kept_in (option_map (λ f. f.now) archive.entry) }
+{
+    match archive {
+        Some(file) => Order::ArchivedDay(file),
+        None => Order::Text(Command::Day),
+    }
+}
+
+/// The word that was given as this argument.
+fn word_given<'a>(given: &ArgMatches<'a>, argument: &str) -> Option<&'a str>
+    ensures { option_map (λ w. w.now) result ≡ first_of argument.now (rows_of (found_of given.now)) }
+{
+    given.get_str(argument)
+}
+
+/// The order of a subcommand's name and of what it was given.
+fn order_from<'a>(name: &str, given: &ArgMatches<'a>) -> Option<Order<'a>>
+    ensures { option_map seen result ≡ spec.order_from name.now (rows_of (found_of given.now)) }
+{
+    match name {
+        "check" => Some(Order::Text(check_named(word_given(given, "what"))?)),
+        "solve" => Some(Order::Text(Command::Solve)),
+        "calendar" => Some(Order::Text(Command::Calendar)),
+        "day" => Some(day_kept_in(word_given(given, "archive"))),
+        "office" => Some(Order::Text(Command::Office)),
+        "audit" => Some(Order::Audit(word_given(given, "file")?)),
+        "migrate" => Some(Order::Migrate(word_given(given, "file")?)),
+        _ => None,
+    }
+}
+
+/// The order that the matches name. Where they name no subcommand it is `check allowed`.
+pub(crate) fn order_in<'a>(matches: &ArgMatches<'a>) -> Option<Order<'a>>
+    ensures { option_map seen result ≡ spec.order_in (subcommand_rows_of matches.now) }
+{
+    let Some((name, given)) = matches.subcommand() else {
+        return Some(Order::Text(Command::CheckAllowed));
+    };
+    order_from(name, given)
+}
+
+/// The word after `check`, or nothing where there is none.
+pub(crate) fn word_after_check<'a>(matches: &ArgMatches<'a>) -> &'a str {
+    match matches.subcommand() {
+        Some((_, given)) => given.get_str("what").unwrap_or(""),
+        None => "",
+    }
+}
