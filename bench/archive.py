@@ -107,7 +107,7 @@ def measure_keep(program, name, folder, runs):
     size = sum(len(body) for _, _, body in bodies)
     print(f"keep of {name}: {len(bodies)} bodies of {size / MEGABYTE:.1f} MB, day --archive {min(it[0] for it in kept):.2f} s, "
           f"peak {max(it[1] for it in kept) / MEGABYTE:.1f} MB; day {alone[0]:.2f} s, peak {alone[1] / MEGABYTE:.1f} MB; "
-          f"sqlite3 inserts the bodies in {inserted:.2f} s", flush=True)
+          f"sqlite3 inserts the bodies in {1000 * inserted:.1f} ms", flush=True)
     told = timed([program, "audit", path], folder, 1)[2]
     return all(it[2] == alone[2] for it in kept) and told == b"audited,%d,,,,,,\n" % len(bodies)
 
