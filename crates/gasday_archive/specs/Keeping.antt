@@ -107,6 +107,6 @@ pub record KeepsKnown (known : Knowledge) (cycle : ℕ) (old new : State) (answe
   pub is : IsKnownIn known cycle posting
   pub keeps : Keeps old new posting answer
 
--- What a history published is kept, by cycle.
+-- What a history published is kept, by cycle, up to an answer that is last.
 abbrev pub KeepsPublished : {S : Type 0} → Ghosts S → Day → History → Held S → List KeepAnswer → Held S → Type 0
 KeepsPublished g day h = KeepsAll g (IsPublishedIn day h) (published_cycles h)

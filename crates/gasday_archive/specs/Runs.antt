@@ -82,14 +82,14 @@ module _ {S : Type 0} (g : Ghosts S) where
     abbrev pub TellsOpened : (Held S → Held S → Told → Type 0) → Option (Held S) → Told → Type 0
     TellsOpened tells left a = (opened : Result (Held S) Error) × gives opened × TellsOf tells opened left a
 
-    -- The gas day of a date is told by its course, or that it has no calendar, and then nothing is opened.
+    -- The gas day of a date is told by its course, or that it has no calendar, and then no archive comes back.
     abbrev pub TellsDate : List Row → Opened → Option (Held S) → Told → Type 0
     TellsDate rows o left a =
         ((moments : List ℕ) × IsCalendarIn o.date o.zone moments
         × TellsOpened (TellsMade (day_in o moments) (calls_of rows)) left a)
         ⊎ ((f : DayFault) × (f ≢ no.OutOfMemory) × ExplainsDay o.date o.zone f × (left ≡ None) × (a ≡ refused (no_calendar f)))
 
-    -- the course of a text's gas day, or the first refusal, and then nothing is opened
+    -- the course of a text's gas day, or the first refusal, and then no archive comes back
     abbrev pub TellsDay : List Row → Result Opened TextFault → Option (Held S) → Told → Type 0
     TellsDay rows (Ok o) left a = TellsDate rows o left a
     TellsDay rows (Err f) left a = (left ≡ None) × (a ≡ fault_answer f)
@@ -99,7 +99,7 @@ module _ {S : Type 0} (g : Ghosts S) where
     TellsRows (Ok rows) left a = TellsDay rows (opened_of rows) left a
     TellsRows (Err f) left a = (left ≡ None) × (a ≡ fault_answer (told_at f))
 
-    -- The day of a text in memory, where it is within its limits. Or that it is too long, and then nothing is opened.
+    -- The day of a text in memory, where it is within its limits. Or that it is too long, and then no archive comes back.
     abbrev pub TellsBytes : List ℕ → Option (Held S) → Told → Type 0
     TellsBytes text left a =
         (IsWithin text × TellsRows (rows_of form.Day text) left a)
@@ -112,7 +112,7 @@ module _ {S : Type 0} (g : Ghosts S) where
         ⊎ ((HasManyBytes text ⊎ HasManyRows text) × (left ≡ None) × (a ≡ fault_answer fault.TooLong))
         ⊎ ((left ≡ None) × (a ≡ fault_answer fault.ReadFailed))
 
--- that, or that memory ran out before anything was opened
+-- that, or that memory ran out, and then no archive comes back
 abbrev pub OrNoMemory : {S : Type 0} → (Option (Held S) → Told → Type 0) → Option (Held S) → Told → Type 0
 OrNoMemory tells left a = tells left a ⊎ ((left ≡ None) × (a ≡ one no_memory 2))
 

@@ -71,12 +71,14 @@ pub fn run<S: Alter + Drop, R: Read, W: Write, O: Opener<S>>(
     opener: O,
 ) -> Ran<S>
     requires command { seen order ≢ ordered.Text Command.Office }
-    ensures { IfSome (R.remaining reader.old) (λ text. orders.Runs S.Store (O.Opener.opens opener) (seen order.entry) text
-        result.archive (W.contents writer.old) (W.contents writer.new) result.status) }
+    ensures runs { orders.Runs S.Store (O.Opener.opens opener) (seen order.entry)
+        (R.remaining reader.old) result.archive (W.contents writer.old) (W.contents writer.new)
+        result.status }
+    ensures unread { orders.NeedsNoText (seen order.entry) → reader.new ≡ reader.old }
 {
     match order {
         Order::Text(command) => run_command(rt, alloc, command, reader, writer),
-        Order::ArchivedDay(_) => { write(alloc, writer, tell_day(rt, alloc, reader, opener)) }
+        Order::ArchivedDay(_) => write(alloc, writer, tell_day(rt, alloc, reader, opener)),
         Order::Audit(_) => write(alloc, writer, tell_audit(alloc, opener.open())),
         Order::Migrate(_) => write(alloc, writer, tell_migration(alloc, opener.open())),
     }

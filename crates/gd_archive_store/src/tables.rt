@@ -258,7 +258,8 @@ fn are_indexes_1(indexes: &[Index]) -> bool
 }
 
 fn are_indexes_2(indexes: &[Index]) -> bool
-    ensures { IsTrue result → indexes.now ≡ key_index (codes "sqlite_autoindex_posting_1") 1 ∷ key_index (codes "sqlite_autoindex_posting2_1") 3 ∷ [] }
+    ensures { IsTrue result → indexes.now ≡ key_index (codes "sqlite_autoindex_posting_1") 1
+        ∷ key_index (codes "sqlite_autoindex_posting2_1") 3 ∷ [] }
 {
     let [key, key2] = indexes else {
         return false;
