@@ -1,0 +1,71 @@
+"""Tests of completions/gasday.bash: what is offered for the words of the command line as `gasday --help` has them."""
+
+import subprocess
+import tempfile
+import unittest
+from pathlib import Path
+
+TOP = Path(__file__).resolve().parents[2]
+COMPLETIONS = TOP / "completions" / "gasday.bash"
+SCRIPT = 'source "$1"; shift; COMP_WORDS=("$@"); COMP_CWORD=$(($# - 1)); _gasday; printf "%s\\n" "${COMPREPLY[@]}"'
+FILES = ["a book.db", "other.db", "text.csv"]
+
+
+class Completing(unittest.TestCase):
+    def offers(self, *words):
+        """What is offered for the last word, in a folder with FILES."""
+        with tempfile.TemporaryDirectory() as folder:
+            for name in FILES:
+                Path(folder, name).touch()
+            done = subprocess.run(["bash", "-c", SCRIPT, "bash", COMPLETIONS, "gasday", *words], cwd=folder,
+                                  capture_output=True, text=True, timeout=60)
+        self.assertEqual((done.stderr, done.returncode), ("", 0))
+        return sorted(filter(None, done.stdout.split("\n")))
+
+    def test_commands(self):
+        self.assertEqual(self.offers(""), ["--help", "audit", "calendar", "check", "day", "migrate", "office", "solve"])
+        self.assertEqual(self.offers("c"), ["calendar", "check"])
+        self.assertEqual(self.offers("-"), ["--help"])
+        self.assertEqual(self.offers("x"), [])
+
+    def test_checks(self):
+        self.assertEqual(self.offers("check", ""), ["--help", "allowed", "best", "cut"])
+        self.assertEqual(self.offers("check", "b"), ["best"])
+        self.assertEqual(self.offers("check", "best", ""), [])
+
+    def test_commands_that_take_no_word(self):
+        for command in ("solve", "calendar", "office"):
+            self.assertEqual(self.offers(command, ""), ["--help"])
+            self.assertEqual(self.offers(command, "--help", ""), [])
+
+    def test_the_archive_of_a_day(self):
+        self.assertEqual(self.offers("day", ""), ["--archive", "--help"])
+        self.assertEqual(self.offers("day", "--a"), ["--archive"])
+        self.assertEqual(self.offers("day", "--archive", ""), FILES)
+        self.assertEqual(self.offers("day", "--archive", "a"), ["a book.db"])
+        self.assertEqual(self.offers("day", "--archive", "a book.db", ""), [])
+
+    def test_the_file_of_audit_and_migrate(self):
+        for command in ("audit", "migrate"):
+            self.assertEqual(self.offers(command, ""), ["--help", *FILES])
+            self.assertEqual(self.offers(command, "o"), ["other.db"])
+            self.assertEqual(self.offers(command, "--"), ["--help"])
+            self.assertEqual(self.offers(command, "other.db", ""), [])
+
+    def test_files_behind_a_redirection(self):
+        self.assertEqual(self.offers("solve", "<", "t"), ["text.csv"])
+        self.assertEqual(self.offers("day", "--archive", "other.db", "<", ""), FILES)
+        self.assertEqual(self.offers("<", "t"), ["text.csv"])
+
+    def test_no_word_of_another_command(self):
+        self.assertEqual(self.offers("nonsense", ""), [])
+        self.assertEqual(self.offers("--help", ""), [])
+
+    def test_it_is_registered_for_gasday(self):
+        done = subprocess.run(["bash", "-c", 'source "$1"; complete -p gasday', "bash", COMPLETIONS],
+                              capture_output=True, text=True, timeout=60)
+        self.assertEqual(done.stdout, "complete -F _gasday gasday\n")
+
+
+if __name__ == "__main__":
+    unittest.main()

@@ -1,0 +1,39 @@
+# Completions of gasday for bash: source this file, or put it into share/bash-completion/completions as `gasday`.
+
+# Offers those of the words that the word at the cursor begins.
+_gasday_words() {
+    local word=${COMP_WORDS[COMP_CWORD]}
+    mapfile -t COMPREPLY < <(compgen -W "$1" -- "$word")
+}
+
+# Offers files, beside what is offered already.
+_gasday_files() {
+    local word=${COMP_WORDS[COMP_CWORD]} files
+    compopt -o filenames 2> /dev/null
+    mapfile -t files < <(compgen -f -- "$word")
+    COMPREPLY+=("${files[@]}")
+}
+
+_gasday() {
+    local before=${COMP_WORDS[COMP_CWORD - 1]}
+    COMPREPLY=()
+    case $before in
+        *[\<\>]*) _gasday_files; return ;;
+    esac
+    if [ "$COMP_CWORD" -eq 1 ]; then
+        _gasday_words 'check solve calendar day office audit migrate --help'
+        return
+    fi
+    case ${COMP_WORDS[1]}:$COMP_CWORD in
+        check:2) _gasday_words 'allowed best cut --help' ;;
+        solve:2 | calendar:2 | office:2) _gasday_words '--help' ;;
+        day:2) _gasday_words '--archive --help' ;;
+        day:3) [ "$before" != --archive ] || _gasday_files ;;
+        audit:2 | migrate:2)
+            _gasday_words '--help'
+            _gasday_files
+            ;;
+    esac
+}
+
+complete -F _gasday gasday

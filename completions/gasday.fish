@@ -1,0 +1,23 @@
+# Completions of gasday for fish: put this file into a folder of $fish_complete_path.
+
+# Whether the command is this one, and no word stands behind it yet.
+function __gasday_behind
+    set -l words (commandline -opc)
+    test (count $words) -eq 2; and contains -- $words[2] $argv
+end
+
+complete -c gasday -f
+complete -c gasday -n __fish_use_subcommand -a check -d 'Is a schedule allowed or best, or can there be none'
+complete -c gasday -n __fish_use_subcommand -a solve -d 'A best schedule with its prices, or a cut'
+complete -c gasday -n __fish_use_subcommand -a calendar -d 'The moments of a gas day'
+complete -c gasday -n __fish_use_subcommand -a day -d 'Make the calls of a whole gas day'
+complete -c gasday -n __fish_use_subcommand -a office -d 'Run an office of several gas days'
+complete -c gasday -n __fish_use_subcommand -a audit -d 'Check each posting of an archive'
+complete -c gasday -n __fish_use_subcommand -a migrate -d 'Bring an archive of version 1 to version 2'
+complete -c gasday -n '__gasday_behind check' -a allowed -d 'Within floors, ceilings and capacities, pools in balance'
+complete -c gasday -n '__gasday_behind check' -a best -d 'Prices show that no allowed schedule is better'
+complete -c gasday -n '__gasday_behind check' -a cut -d 'A set shows that no schedule is allowed'
+complete -c gasday -n '__fish_seen_subcommand_from day' -l archive -r -F -d 'Keep what is published in a file'
+complete -c gasday -n '__gasday_behind audit migrate' -F
+complete -c gasday -n __fish_use_subcommand -l help -d 'Print help'
+complete -c gasday -n '__gasday_behind check solve calendar day office audit migrate' -l help -d 'Print help'
