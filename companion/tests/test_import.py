@@ -140,6 +140,12 @@ class Rows(Importing):
             self.refuses(kind + ",POOL,A,OP,,,,\n", "1: error: field 1 ('%s') is no kind of row" % kind)
         self.refuses("pipe,S1,A,B,100,,,\n", "1: error: field 1 ('pipe') is no kind of row")
 
+    def test_a_header_has_no_digit_in_front(self):
+        self.refuses('day2026-01-15,"UTC0",DEMO,,,,,\n', "1: error: field 1 ('day2026-01-15') is no kind of row")
+
+    def test_a_text_of_which_no_row_is_left(self):
+        self.imports("Kind,Name\n", "", "1: header row dropped")
+
     def test_a_header_stands_first(self):
         self.refuses("segment,S1,A,B,100,,,\nKind,Name,,,,,,\n", "2: error: field 1 ('Kind') is no kind of row")
 
