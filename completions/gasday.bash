@@ -21,10 +21,11 @@ _gasday() {
         *[\<\>]*) _gasday_files; return ;;
     esac
     if [ "$COMP_CWORD" -eq 1 ]; then
-        _gasday_words 'check solve calendar day office audit migrate --help'
+        _gasday_words 'check solve calendar day office audit migrate help --help'
         return
     fi
     case ${COMP_WORDS[1]}:$COMP_CWORD in
+        help:2) _gasday_words 'check solve calendar day office audit migrate' ;;
         check:2) _gasday_words 'allowed best cut --help' ;;
         solve:2 | calendar:2 | office:2) _gasday_words '--help' ;;
         day:2) _gasday_words '--archive --help' ;;

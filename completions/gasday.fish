@@ -14,6 +14,8 @@ complete -c gasday -n __fish_use_subcommand -a day -d 'Make the calls of a whole
 complete -c gasday -n __fish_use_subcommand -a office -d 'Run an office of several gas days'
 complete -c gasday -n __fish_use_subcommand -a audit -d 'Check each posting of an archive'
 complete -c gasday -n __fish_use_subcommand -a migrate -d 'Bring an archive of version 1 to version 2'
+complete -c gasday -n __fish_use_subcommand -a help -d 'Print help of a command'
+complete -c gasday -n '__gasday_behind help' -a 'check solve calendar day office audit migrate'
 complete -c gasday -n '__gasday_behind check' -a allowed -d 'Within floors, ceilings and capacities, pools in balance'
 complete -c gasday -n '__gasday_behind check' -a best -d 'Prices show that no allowed schedule is better'
 complete -c gasday -n '__gasday_behind check' -a cut -d 'A set shows that no schedule is allowed'

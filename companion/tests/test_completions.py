@@ -23,7 +23,9 @@ class Completing(unittest.TestCase):
         return sorted(filter(None, done.stdout.split("\n")))
 
     def test_commands(self):
-        self.assertEqual(self.offers(""), ["--help", "audit", "calendar", "check", "day", "migrate", "office", "solve"])
+        commands = ["audit", "calendar", "check", "day", "migrate", "office", "solve"]
+        self.assertEqual(self.offers(""), sorted(["--help", "help", *commands]))
+        self.assertEqual(self.offers("help", ""), commands)
         self.assertEqual(self.offers("c"), ["calendar", "check"])
         self.assertEqual(self.offers("-"), ["--help"])
         self.assertEqual(self.offers("x"), [])
