@@ -270,6 +270,7 @@ class Order(Importing):
         events = "session,1,SHIP,,,,,\ndesk,5,,,,,,\n"
         self.imports(first + segment + contract + pools + day % 2 + events, first + second + events,
                      "7: contract row moved behind line 9 of standard input")
+        self.assertEqual(run(first + second, "--strict"), ((first + second).encode(), "", 0))
 
 
 class Large(Importing):
