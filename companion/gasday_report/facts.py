@@ -83,7 +83,7 @@ def entering(asked, quantities):
 
 
 def element_facts(asked, rows, loads, answer, excess):
-    operators = {row[1]: row[5 if row[0] == "point" else 3] for row in of_kinds(rows, ("point", "pool"))}
+    operators = {row[1]: row[4 if row[0] == "point" else 3] for row in of_kinds(rows, ("point", "pool"))}
     names, into = list(asked.places), entering(asked, answer.quantities)
     ways_out = dict(excess.can_flow) if excess else {}
     for element in asked.in_order():

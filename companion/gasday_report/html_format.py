@@ -27,11 +27,6 @@ def section(title, *parts):
     return f"<section><h2>{escape(title)}</h2>{''.join(parts)}</section>"
 
 
-def spaced(number):
-    """Digits in groups of three, as the tables of the page have them."""
-    return f"{number:,}".replace(",", "\u202f")
-
-
 def verdict_html(verdict):
     kind, word = ("pass", "PASS") if verdict.passed else ("fail", "FAIL")
     return (f'<div class="verdict {kind}"><b>{word}</b>{escape(verdict.by)}<div>{escape(verdict.words)}</div></div>')
@@ -59,7 +54,7 @@ def counts_html(facts):
     words = [(len(facts.lines), "lines"), (short, "short of what was asked"), (full, "full segments and points")]
     if any(line.bumped is not None for line in facts.lines):
         words.append((bumped, "bumped"))
-    return f'<div class="counts">{"".join(f"<div><b>{spaced(n)}</b>{escape(word)}</div>" for n, word in words)}</div>'
+    return f'<div class="counts">{"".join(f"<div><b>{n}</b>{escape(word)}</div>" for n, word in words)}</div>'
 
 
 def totals_html(facts):
@@ -67,7 +62,7 @@ def totals_html(facts):
     for number, asked, given in facts.totals:
         share = 100 * given / asked if asked else 0
         rows.append(f'<tr><td>class {number}</td><td class="wide"><div class="bar"><i style="width:{share:.2f}%"></i></div></td>'
-                    f"<td>{spaced(given)} of {spaced(asked)}</td></tr>")
+                    f"<td>{given} of {asked}</td></tr>")
     return f'<table class="bars">{"".join(rows)}</table>'
 
 
@@ -75,7 +70,7 @@ def picture_html(facts):
     svg, note = picture_of(facts)
     warning = f'<p class="warn">{escape(note)}</p>' if note else ""
     return section("The pipeline", warning, f'<div class="picture">{svg}</div>', CUT_LEGEND if facts.is_cut else LEGEND,
-                   '<p class="note">Hover for loads, room and prices; click to find an element in the table.</p>')
+                   '<p class="note">Hover over an element for its numbers; click on it to find it in the table.</p>')
 
 
 def schedule_html(facts):
@@ -86,9 +81,9 @@ def schedule_html(facts):
 
 
 def cut_html(facts):
-    leave, back, flow = map(spaced, facts.excess.sums())
+    leave, back, flow = facts.excess.sums()
     words = (f'<p class="sum"><b>{leave}</b> must leave \u2212 <b>{back}</b> can come back \u2212 <b>{flow}</b> can flow out'
-             f" = <b>{spaced(facts.excess.total())}</b> too many</p>")
+             f" = <b>{facts.excess.total()}</b> too many</p>")
     return "".join([
         section("There is no schedule", words, f"<p>The set: {escape(set_in_words(facts))}.</p>",
                 f"<p>{escape(excess_words(facts))}.</p>", f'<p class="note">{escape(CUT_NOTE)}</p>'),

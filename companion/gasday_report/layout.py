@@ -6,7 +6,9 @@ from typing import NamedTuple
 
 INCH = 72
 SECONDS = 20
-LAYER, SLOT, MARGIN = 250, 64, 60
+LAYER, SLOT, MARGIN = 250, 44, 60
+LETTERS = 15  # how far above its curve a label stands
+HEAD = 10  # the length of an arrow's head, which goes on from its curve
 
 
 class Node(NamedTuple):
@@ -34,7 +36,7 @@ def dot_source(nodes, edges):
     """The graph in dot's language. It has numbers in place of names, so nothing in it needs quoting."""
     at = {node.key: number for number, node in enumerate(nodes)}
     rows = ["digraph {", "rankdir=LR; nodesep=0.28; ranksep=0.45;", 'node [shape=box fixedsize=true label=""];',
-            'edge [fontsize=10 fontname="Helvetica"];']
+            'edge [fontsize=12 fontname="Helvetica"];']
     for node in nodes:
         rows.append(f"n{at[node.key]} [width={node.width / INCH:.3f} height={node.height / INCH:.3f}];")
         if node.beside is not None:
@@ -112,7 +114,7 @@ def plain(nodes, edges):
     places = {key: (MARGIN + 60 + (layer[key] - least) * LAYER, MARGIN + (used - 1 - slots[key]) * SLOT) for key in order}
     places = apart(places)
     size = {node.key: node for node in nodes}
-    curves = {(edge.tail, edge.head): straight(places, size, edge) for edge in edges}
+    curves = {(edge.tail, edge.head): straight(places, size, edge, near) for edge in edges}
     width = max(x for x, _ in places.values()) + MARGIN + 60
     return Layout(width, max(y for _, y in places.values()) + MARGIN, places, curves, False)
 
@@ -126,17 +128,20 @@ def apart(places):
     return moved
 
 
-def straight(places, size, edge):
-    """A curve from a node's right side to the next one's left side, or straight down where they stand in one layer."""
+def straight(places, size, edge, near):
+    """A curve from a node's right side to the next one's left side, or straight down where they stand in one layer. The
+    label stands towards the node with fewer edges, where the curve is by itself."""
     (x1, y1), (x2, y2) = places[edge.tail], places[edge.head]
     if x1 == x2:
         down = 1 if y2 > y1 else -1
         y1, y2 = y1 + down * size[edge.tail].height / 2, y2 - down * size[edge.head].height / 2
     else:
-        x1, x2 = x1 + size[edge.tail].width / 2, x2 - size[edge.head].width / 2
+        x1, x2 = x1 + size[edge.tail].width / 2, x2 - size[edge.head].width / 2 - HEAD
     middle = (x1 + x2) / 2
     points = [(x1, y1), (middle, y1), (middle, y2), (x2, y2)]
-    return points, ((middle, (y1 + y2) / 2) if edge.label else None)
+    share = 0.3 if len(near[edge.tail]) <= len(near[edge.head]) else 0.7
+    label = x1 + share * (x2 - x1), (y1 if share < 0.5 else y2) - LETTERS
+    return points, (label if edge.label else None)
 
 
 def laid_out(nodes, edges):

@@ -12,10 +12,6 @@ function node(name, text, kind) {
   return made;
 }
 
-function grouped(value) {
-  return typeof value === 'number' ? String(value).replace(/\\B(?=(\\d{3})+$)/g, ' ') : value;
-}
-
 class Table {
   constructor(table) {
     Object.assign(this, table);
@@ -119,8 +115,8 @@ class Table {
     const rows = this.chosen(), pages = Math.max(1, Math.ceil(rows.length / PAGE));
     this.page = Math.min(Math.max(this.page, 0), pages - 1);
     const first = this.page * PAGE, shown = rows.slice(first, first + PAGE);
-    const of = grouped(rows.length) + (rows.length < this.rows.length ? ' (of ' + grouped(this.rows.length) + ')' : '');
-    this.where.textContent = shown.length ? grouped(first + 1) + ' to ' + grouped(first + shown.length) + ' of ' + of : 'none';
+    const of = String(rows.length) + (rows.length < this.rows.length ? ' (of ' + this.rows.length + ')' : '');
+    this.where.textContent = shown.length ? first + 1 + ' to ' + (first + shown.length) + ' of ' + of : 'none';
     this.heads.forEach((cell, at) => {
       cell.firstChild.textContent = this.columns[at].title + (at === this.order ? (this.down ? ' \\u25be' : ' \\u25b4') : '');
       cell.setAttribute('aria-sort', at !== this.order ? 'none' : this.down ? 'descending' : 'ascending');
@@ -132,14 +128,14 @@ class Table {
     const marks = this.marks.filter(mark => this.has(row, mark));
     const made = node('tr', null, marks.map(mark => mark.kind).join(' '));
     this.columns.forEach((column, at) => {
-      const marked = marks.some(mark => mark.column === at) ? ' mark' : '';
+      const marked = marks.filter(mark => mark.column === at).map(mark => ' mark-' + mark.kind).join('');
       made.append(this.cell(row[at], (column.number ? 'number' : column.name ? 'name' : '') + marked));
     });
     return made;
   }
 
   cell(value, kind) {
-    if (!Array.isArray(value)) return node('td', grouped(value), kind);
+    if (!Array.isArray(value)) return node('td', value, kind);
     const cell = node('td', null, kind), list = node('ul');
     list.append(...value.map(k => node('li', data.texts[k])));
     if (value.length) cell.append(list);
@@ -148,6 +144,12 @@ class Table {
 }
 
 const tables = data.tables.map(table => new Table(table));
+const picture = document.querySelector('.picture'), busiest = document.getElementById('busiest');
+if (picture && busiest) {
+  const outer = picture.getBoundingClientRect(), inner = busiest.getBoundingClientRect();
+  picture.scrollLeft += inner.left - outer.left - outer.width / 2;
+  picture.scrollTop += inner.top - outer.top - outer.height / 2;
+}
 for (const part of document.querySelectorAll('svg [data-name]')) {
   part.addEventListener('click', () => {
     const table = tables.find(one => one.id === 'elements');

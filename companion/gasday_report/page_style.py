@@ -30,12 +30,13 @@ code { font: 12.5px ui-monospace, Menlo, Consolas, monospace; overflow-wrap: any
 .note { color: var(--soft); margin: 8px 0 0; }
 .warn { background: #fff6e0; border: 1px solid #ecd9a0; border-radius: 6px; padding: 8px 12px; margin: 0 0 10px; }
 .picture { overflow: auto; max-height: 720px; border: 1px solid var(--line); border-radius: 6px; background: #fcfdfe; text-align: center; }
+svg.fits { max-width: 100%; height: auto; }
 svg text { font: 11px system-ui, "Segoe UI", Helvetica, Arial, sans-serif; text-anchor: middle; fill: var(--ink); }
 svg .amount { fill: var(--soft); font-size: 10px; }
-svg .edge text { paint-order: stroke; stroke: #fcfdfe; stroke-width: 3px; stroke-linejoin: round; }
+svg .label text { paint-order: stroke; stroke: #fcfdfe; stroke-width: 3px; stroke-linejoin: round; }
 svg .line { fill: none; stroke: var(--c); stroke-linecap: butt; }
 svg .head { fill: var(--c); }
-svg .edge, svg .end { --c: #8a96a3; cursor: pointer; }
+svg .edge, svg .end, svg .label { --c: #8a96a3; cursor: pointer; }
 svg .low { --c: var(--low); } svg .middle { --c: var(--middle); } svg .high { --c: var(--high); }
 svg .full, svg .way-out { --c: var(--full); } svg .idle { --c: var(--idle); }
 svg .idle .line { stroke-dasharray: 5 4; }
@@ -63,10 +64,9 @@ svg g:hover > .line { filter: brightness(0.8); }
 .data .number { text-align: right; font-variant-numeric: tabular-nums; white-space: nowrap; }
 .data .name { white-space: nowrap; }
 .data ul { margin: 0; padding-left: 16px; }
-.data .tag { display: inline-block; border-radius: 4px; padding: 0 6px; font-size: 12px; margin-right: 6px; color: #fff; }
-.data .short { background: #fffaf0; } .data .short .mark { color: #9a5b00; font-weight: 600; }
-.data .bumped { background: #fdf1f0; } .data .bumped .mark, .data .refused .mark { color: var(--bad); font-weight: 600; }
-.data .full .mark { color: var(--full); font-weight: 600; }
+.data .short { background: #fffaf0; } .data .mark-short { color: #9a5b00; font-weight: 600; }
+.data .bumped, .data .refused { background: #fdf1f0; }
+.data .mark-bumped, .data .mark-refused, .data .mark-full { color: var(--bad); font-weight: 600; }
 .data .crosses { background: #fffbe9; }
 ul.notes { margin: 0; padding-left: 20px; } ul.notes li { margin: 3px 0; }
 @media print { body { background: #fff; } .tools, .picture { overflow: visible; max-height: none; } }

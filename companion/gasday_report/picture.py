@@ -4,13 +4,16 @@ import heapq
 from html import escape
 from typing import NamedTuple
 
-from .layout import Edge, Node, laid_out
+from .layout import HEAD, Edge, Node, laid_out
 from .words import price_in_words
 
-MOST_PLACES = 60
-MOST_ENDS = 100
-WIDEST, NARROWEST = 13, 1.5
-LETTER, HEIGHT = 6.4, 26
+# A pipeline with more places, or more points and pools, is drawn in part, and the part has these many.
+MOST_PLACES, MOST_ENDS = 60, 90
+PART_PLACES, PART_ENDS = 30, 40
+# A picture that is wider than this is scrolled, and not made to fit the page.
+MOST_WIDTH = 1900
+WIDEST, NARROWEST = 12, 1.5
+LETTER, HEIGHT = 6.6, 26
 
 
 class Part(NamedTuple):
@@ -38,7 +41,7 @@ def busiest_part(facts):
     places, taken = {segments[first].start: None}, []
     waiting = [entry(segments, k) for k in at[segments[first].start]]
     heapq.heapify(waiting)
-    while waiting and len(places) < MOST_PLACES:
+    while waiting and len(places) < PART_PLACES:
         segment = segments[heapq.heappop(waiting)[-1]]
         new = [place for place in (segment.start, segment.end) if place not in places]
         if new:
@@ -56,11 +59,12 @@ def entry(segments, k):
 def part_of(facts):
     everywhere = list(facts.asked.places)
     places, segments = everywhere, [element for element in facts.elements if element.kind == "segment"]
+    all_ends = [element for element in facts.elements if element.kind != "segment"]
     if len(places) > MOST_PLACES:
         places, segments = busiest_part(facts)
-    shown, all_ends = set(places), [element for element in facts.elements if element.kind != "segment"]
-    ends = [element for element in all_ends if element.start in shown]
-    kept = sorted(ends, key=weight_of, reverse=True)[:MOST_ENDS]
+    kept = [element for element in all_ends if element.start in set(places)]
+    if len(kept) > MOST_ENDS or len(places) < len(everywhere):
+        kept = sorted(kept, key=weight_of, reverse=True)[:PART_ENDS]
     note = ""
     if len(places) < len(everywhere) or len(kept) < len(all_ends):
         kind = "that matters most to the cut" if facts.is_cut else "that carries most"
@@ -79,12 +83,14 @@ def style_of(element):
         return "idle"
     if element.room == 0:
         return "full"
-    return "low" if 2 * element.load < element.capacity else "high" if 10 * element.load >= 9 * element.capacity else "middle"
+    if 2 * element.load < element.capacity:
+        return "low"
+    return "high" if 10 * element.load >= 9 * element.capacity else "middle"
 
 
 def amount_of(element):
     if element.load is None:
-        return "" if element.capacity is None else f"{element.capacity}"
+        return "" if element.capacity is None else str(element.capacity)
     if element.kind == "pool":
         return f"{element.load} through"
     return f"{element.load} / {element.capacity}"
@@ -111,7 +117,7 @@ def width_for(load, greatest):
 
 
 def box_width(*words):
-    return int(max(map(len, words)) * LETTER) + 18
+    return max(int(max(map(len, words)) * LETTER) + 20, 44)
 
 
 def curve_of(points):
@@ -120,40 +126,40 @@ def curve_of(points):
 
 
 def arrow_of(points, width):
-    """A head at the end of a curve, along its last piece."""
+    """A head that goes on from a curve's end, along its last piece."""
     x, y = points[-1]
     near = next(((px, py) for px, py in reversed(points[:-1]) if (px, py) != (x, y)), (x - 1, y))
     dx, dy = x - near[0], y - near[1]
     length = (dx * dx + dy * dy) ** 0.5
-    dx, dy, size = dx / length, dy / length, 5 + width
-    side = size * 0.55
-    bx, by = x - dx * size, y - dy * size
-    return (f"M{x + dx:.1f} {y + dy:.1f}L{bx - dy * side:.1f} {by + dx * side:.1f}"
-            f"L{bx + dy * side:.1f} {by - dx * side:.1f}Z")
+    dx, dy, side = dx / length, dy / length, 3 + width * 0.75
+    return (f"M{x + dx * HEAD:.1f} {y + dy * HEAD:.1f}L{x - dy * side:.1f} {y + dx * side:.1f}"
+            f"L{x + dy * side:.1f} {y - dx * side:.1f}Z")
 
 
-def edge_svg(element, curve, greatest, named):
-    points, label = curve
-    style, width = style_of(element), width_for(element.load, greatest)
+def edge_svg(element, points, greatest):
+    width = width_for(element.load, greatest)
     arrow = "" if element.kind == "pool" else f'<path class="head" d="{arrow_of(points, width)}"/>'
-    text = ""
-    if named and label:
-        x, y = label
-        text = (f'<text x="{x:.1f}" y="{y - 3:.1f}">{escape(element.name)}</text>'
-                f'<text class="amount" x="{x:.1f}" y="{y + 9:.1f}">{escape(amount_of(element))}</text>')
-    return (f'<g class="edge {element.kind} {style}" data-name="{escape(element.name)}"><title>{hover_of(element)}</title>'
-            f'<path class="line" d="{curve_of(points)}" stroke-width="{width:.1f}"/>{arrow}{text}</g>')
+    return (f'<g class="edge {element.kind} {style_of(element)}" data-name="{escape(element.name)}"><title>{hover_of(element)}</title>'
+            f'<path class="line" d="{curve_of(points)}" stroke-width="{width:.1f}"/>{arrow}</g>')
+
+
+def label_svg(segment, middle, greatest):
+    x, y = middle
+    busiest = ' id="busiest"' if greatest and segment.load == greatest else ""
+    return (f'<g class="label"{busiest} data-name="{escape(segment.name)}"><title>{hover_of(segment)}</title>'
+            f'<text x="{x:.1f}" y="{y - 2:.1f}">{escape(segment.name)}</text>'
+            f'<text class="amount" x="{x:.1f}" y="{y + 9:.1f}">{escape(amount_of(segment))}</text></g>')
 
 
 def end_svg(element, middle, width):
     x, y = middle
-    inside = " inside" if element.inside else ""
+    inside, amount = " inside" if element.inside else "", amount_of(element)
     round_by = HEIGHT / 2 if element.kind == "pool" else 3
     return (f'<g class="end {element.kind} {style_of(element)}{inside}" data-name="{escape(element.name)}">'
             f"<title>{hover_of(element)}</title>"
             f'<rect x="{x - width / 2:.1f}" y="{y - 16}" width="{width}" height="32" rx="{round_by}"/>'
-            f'<text x="{x:.1f}" y="{y - 3:.1f}">{escape(element.name)}</text>'
-            f'<text class="amount" x="{x:.1f}" y="{y + 10:.1f}">{escape(amount_of(element))}</text></g>')
+            f'<text x="{x:.1f}" y="{y - 3 if amount else y + 4:.1f}">{escape(element.name)}</text>'
+            f'<text class="amount" x="{x:.1f}" y="{y + 10:.1f}">{escape(amount)}</text></g>')
 
 
 def place_svg(name, middle, width, inside):
@@ -166,7 +172,7 @@ def place_svg(name, middle, width, inside):
 
 def graph_of(part):
     """The nodes and edges of a part. A key begins with the kind, since places have names of their own."""
-    nodes = [Node("place " + name, box_width(name), HEIGHT) for name in part.places]
+    nodes = [Node("place " + name, box_width(name) + 8, HEIGHT) for name in part.places]
     edges = [Edge("place " + s.start, "place " + s.end, max(len(s.name), len(amount_of(s)))) for s in part.segments]
     for end in part.ends:
         key, place = "end " + end.name, "place " + end.start
@@ -186,13 +192,15 @@ def picture_of(facts):
     width = {node.key: node.width for node in nodes}
     inside = {name for kind, name in facts.members if kind == "place"}
     drawn = []
-    for edge, element in zip(edges, elements):
-        drawn.append(edge_svg(element, layout.curves[edge.tail, edge.head], greatest, element.kind == "segment"))
+    curves = [layout.curves[edge.tail, edge.head] for edge in edges]
+    drawn += [edge_svg(element, points, greatest) for element, (points, _) in zip(elements, curves)]
     for name in part.places:
         key = "place " + name
         drawn.append(place_svg(name, layout.nodes[key], width[key], name in inside))
+    drawn += [label_svg(element, label, greatest) for element, (_, label) in zip(elements, curves) if label]
     drawn += [end_svg(end, layout.nodes["end " + end.name], width["end " + end.name]) for end in part.ends]
     box = f"-8 -8 {layout.width + 16:.0f} {layout.height + 16:.0f}"
-    svg = (f'<svg viewBox="{box}" width="{layout.width + 16:.0f}" height="{layout.height + 16:.0f}" role="img"'
+    fits = ' class="fits"' if layout.width < MOST_WIDTH else ""
+    svg = (f'<svg{fits} viewBox="{box}" width="{layout.width + 16:.0f}" height="{layout.height + 16:.0f}" role="img"'
            f' aria-label="The pipeline">{"".join(drawn)}</svg>')
     return svg, part.note
