@@ -16,15 +16,19 @@ leaves beyond it, and what a dekatherm pays on its way is the difference of two 
 import csv
 import io
 import sys
-from typing import NamedTuple
+from collections import namedtuple
 
-CLASSES = 8
-TENTHS = 10
+CLASSES, TENTHS = 8, 10
 # A price, a cost or a worth: the words of classes 1 to 8, then their words of the spread. Python compares from the front on.
 NOTHING = (0,) * (2 * CLASSES)
 # How many of the eight fields each kind of row uses; the others are empty.
 QUESTION_FIELDS = {"segment": 5, "point": 6, "pool": 4, "question": 4, "capacity": 3, "line": 6}
 ANSWER_FIELDS = {"sched": 3, "price": 5, "inside": 3}
+
+# Kinds are segment, receipt, delivery and pool. Ends are the two places of a segment, or the one place of a point or pool,
+# by number. A pool's capacity means nothing.
+Element = namedtuple("Element", "name kind ends capacity")
+Line = namedtuple("Line", "origin destination class_number floor ceiling")
 
 
 class Unreadable(Exception):
@@ -32,26 +36,41 @@ class Unreadable(Exception):
 
 
 class Wrong(Exception):
-    """The first thing that is wrong with an answer: its name, its line or element, and what it is in words."""
+    """The first thing that is wrong with an answer: the rule's name, the line or element, and what it is in words."""
 
     def __init__(self, name, item, words):
         super().__init__(words)
         self.name, self.item, self.words = name, item, words
 
 
-class Element(NamedTuple):
-    name: str
-    kind: str  # segment, receipt, delivery or pool
-    ends: tuple  # the numbers of a segment's two places, or of the one place of a point or pool
-    capacity: int  # 0 at a pool, where it means nothing
+def need(holds, words):
+    if not holds:
+        raise Unreadable(words)
 
 
-class Line(NamedTuple):
-    origin: str
-    destination: str
-    class_number: int
-    floor: int
-    ceiling: int
+def number(field, signed=False):
+    digits = field[1:] if signed and field.startswith("-") else field
+    need(digits.isascii() and digits.isdigit() and len(digits) <= 18, f"'{field}' is no number")
+    return int(field)
+
+
+def known(table, name):
+    need(name in table, f"'{name}' is not known")
+    return table[name]
+
+
+def read_rows(text, fields, reader, others=False):
+    """Hands each row of a text to the reader's method for its kind; other kinds of rows are passed over, or refused."""
+    try:
+        for at, row in enumerate(filter(None, csv.reader(io.StringIO(text, newline=""), strict=True)), 1):
+            if row[0] in fields or not others:
+                used = fields.get(row[0], 0)
+                need(used and len(row) == 8 and not any(row[used:]), "it is not of a form that stands here")
+                getattr(reader, "read_" + row[0])(*row[1:used])
+    except csv.Error as error:
+        raise Unreadable(f"no rows of comma-separated fields: {error}") from None
+    except Unreadable as error:
+        raise Unreadable(f"row {at}: {error}") from None
 
 
 def plus(a, sign, b):
@@ -71,54 +90,21 @@ def worth_of(line, dekatherm):
     return tuple(worth)
 
 
-def read_rows(text, fields, reader, others=False):
-    """Hands each row of a text to the reader's method for its kind; other kinds of rows are passed over, or refused."""
-    try:
-        rows = [row for row in csv.reader(io.StringIO(text, newline=""), strict=True) if row]
-    except csv.Error as error:
-        raise Unreadable(f"no rows of comma-separated fields: {error}") from None
-    for at, row in enumerate(rows, 1):
-        if others and row[0] not in fields:
-            continue
-        if len(row) != 8 or row[0] not in fields or any(row[fields[row[0]]:]):
-            raise Unreadable(f"row {at} is not of a form that stands here")
-        try:
-            getattr(reader, "read_" + row[0])(*row[1:fields[row[0]]])
-        except Unreadable as error:
-            raise Unreadable(f"row {at}: {error}") from None
-
-
-def number(field, signed=False):
-    digits = field[1:] if signed and field.startswith("-") else field
-    if not (digits.isascii() and digits.isdigit() and len(digits) <= 18):
-        raise Unreadable(f"'{field}' is no number")
-    return int(field)
-
-
-def known(table, name):
-    if name not in table:
-        raise Unreadable(f"'{name}' is not known")
-    return table[name]
-
-
 class Question:
-    """The pipeline as a tree of places, numbered from the root 0, each after the place that its segment joins it to; and
-    the lines."""
+    """The lines, and the pipeline as a tree of places. The root is 0, and each other place stands behind its parent, which
+    its own segment joins it to, upward where gas flows to the parent."""
 
     def __init__(self, text):
         self.elements, self.places, self.lines, self.heads = {}, {}, [], 0
         self.parent, self.segment_at, self.upward = [], [], []
         read_rows(text, QUESTION_FIELDS, self)
-        if self.heads != 1 or not self.parent:
-            raise Unreadable("the text has no segment, or not exactly one question row")
+        need(self.heads == 1 and self.parent, "the text has no segment, or not exactly one question row")
         self.find_subtrees()
         for at, line in enumerate(self.lines, 1):
-            if not self.has_route(line):
-                raise Unreadable(f"line {at} has no route from {line.origin} to {line.destination}")
+            need(self.has_route(line), f"line {at} has no route from {line.origin} to {line.destination}")
 
     def enter(self, name, kind, ends, capacity):
-        if not name or name in self.elements:
-            raise Unreadable(f"'{name}' is empty, or given twice")
+        need(name and name not in self.elements, f"'{name}' is empty, or given twice")
         self.elements[name] = Element(name, kind, ends, number(capacity))
 
     def add_place(self, name, parent, segment, upward):
@@ -130,17 +116,13 @@ class Question:
     def read_segment(self, name, start, end, capacity):
         if not self.places:
             self.add_place(start, None, None, False)
-        if (start in self.places) == (end in self.places):
-            raise Unreadable(f"segment {name} doesn't join one new place to the pipeline")
-        if start in self.places:
-            self.add_place(end, self.places[start], name, False)
-        else:
-            self.add_place(start, self.places[end], name, True)
+        upward = end in self.places
+        need((start in self.places) != upward, f"segment {name} doesn't join one new place to the pipeline")
+        self.add_place(start if upward else end, self.places[end if upward else start], name, upward)
         self.enter(name, "segment", (self.places[start], self.places[end]), capacity)
 
     def read_point(self, name, kind, place, _operator, capacity):
-        if kind not in ("receipt", "delivery"):
-            raise Unreadable(f"'{kind}' is neither receipt nor delivery")
+        need(kind in ("receipt", "delivery"), f"'{kind}' is neither receipt nor delivery")
         self.enter(name, kind, (known(self.places, place),), capacity)
 
     def read_pool(self, name, place, _operator):
@@ -150,18 +132,15 @@ class Question:
         self.heads += 1
 
     def read_capacity(self, name, capacity):
-        element = known(self.elements, name)
-        if element.kind == "pool":
-            raise Unreadable(f"{name} is a pool and has no capacity")
-        self.elements[name] = element._replace(capacity=number(capacity))
+        need(known(self.elements, name).kind != "pool", f"{name} is a pool and has no capacity")
+        self.elements[name] = self.elements[name]._replace(capacity=number(capacity))
 
-    def read_line(self, origin, destination, class_number, floor, ceiling):
-        line = Line(origin, destination, number(class_number), number(floor), number(ceiling))
-        kinds = known(self.elements, origin).kind, known(self.elements, destination).kind
-        if kinds[0] not in ("receipt", "pool") or kinds[1] not in ("delivery", "pool") or origin == destination:
-            raise Unreadable(f"no line leads from {origin} to {destination}")
-        if not 1 <= line.class_number <= CLASSES or line.floor > line.ceiling:
-            raise Unreadable("the class is not 1 to 8, or the floor is above the ceiling")
+    def read_line(self, origin, destination, *numbers):
+        line = Line(origin, destination, *map(number, numbers))
+        need(known(self.elements, origin).kind in ("receipt", "pool"), f"no line starts at {origin}")
+        need(known(self.elements, destination).kind in ("delivery", "pool"), f"no line ends at {destination}")
+        need(origin != destination and line.floor <= line.ceiling, "the ends are the same, or the floor is above the ceiling")
+        need(1 <= line.class_number <= CLASSES, "the class is not 1 to 8")
         self.lines.append(line)
 
     def in_order(self):
@@ -172,18 +151,17 @@ class Question:
         return self.elements[end].ends[0]
 
     def sign_at(self, origin):
-        """A line crosses the pool that it leaves by -1, and all else by 1."""
+        """A line gets the price of the pool that it leaves, and pays all others."""
         return -1 if self.elements[origin].kind == "pool" else 1
 
     def find_subtrees(self):
         """Positions in which the places of each subtree stand side by side; and how far up gas gets from each place, and
         from how far up it gets there."""
         count = len(self.parent)
-        self.size, self.first = [1] * count, [0] * count
+        self.size, self.first, free = [1] * count, [0] * count, [1] * count
+        self.rise, self.fall = list(range(count)), list(range(count))
         for place in range(count - 1, 0, -1):
             self.size[self.parent[place]] += self.size[place]
-        free = [1] * count
-        self.rise, self.fall = list(range(count)), list(range(count))
         for place in range(1, count):
             above = self.parent[place]
             self.first[place] = free[above]
@@ -217,11 +195,10 @@ class Question:
     def costs(self, prices):
         """What a dekatherm of each line pays: at the segments and points that it passes and the pool that it enters, less
         what it gets back at the pool that it leaves."""
-        from_root = [NOTHING]
+        from_root, costs = [NOTHING], []
         for place in range(1, len(self.parent)):
             price = prices.get(self.segment_at[place], NOTHING)
             from_root.append(plus(from_root[self.parent[place]], 1 if self.upward[place] else -1, price))
-        costs = []
         for line in self.lines:
             cost = plus(from_root[self.place_of(line.origin)], -1, from_root[self.place_of(line.destination)])
             cost = plus(cost, self.sign_at(line.origin), prices.get(line.origin, NOTHING))
@@ -236,36 +213,25 @@ class Answer:
         self.question, self.quantities, self.prices, self.levels, self.members = question, [], {}, set(), set()
         read_rows(text, ANSWER_FIELDS, self, others=True)
         self.is_cut = bool(self.members)
-        if self.is_cut and (self.quantities or self.prices):
-            raise Unreadable("the answer has both a set and a schedule or prices")
+        need(not self.is_cut or not (self.quantities or self.prices), "there are both a set and a schedule or prices")
 
     def read_sched(self, line, quantity):
-        if number(line) != len(self.quantities) + 1:
-            raise Unreadable(f"line {line} doesn't follow line {len(self.quantities)}")
+        need(number(line) == len(self.quantities) + 1, f"line {line} doesn't follow line {len(self.quantities)}")
         self.quantities.append(number(quantity))
 
     def read_price(self, name, level, word, spread):
-        known(self.question.elements, name)
-        level = number(level)
-        if not 1 <= level <= CLASSES or (name, level) in self.levels:
-            raise Unreadable(f"level {level} is not 1 to {CLASSES}, or given twice")
-        self.levels.add((name, level))
-        price = list(self.prices.get(name, NOTHING))
-        price[level - 1], price[CLASSES + level - 1] = number(word, True), number(spread or "0", True)
+        price, at = list(self.prices.get(known(self.question.elements, name).name, NOTHING)), number(level)
+        need(1 <= at <= CLASSES and (name, at) not in self.levels, f"level {level} is not 1 to 8, or given twice")
+        self.levels.add((name, at))
+        price[at - 1], price[CLASSES + at - 1] = number(word, True), number(spread or "0", True)
         self.prices[name] = tuple(price)
 
     def read_inside(self, kind, name):
-        element = self.question.elements.get(name)
-        if kind == "place":
-            known(self.question.places, name)
-        elif element is None or kind != ("pool" if element.kind == "pool" else "point") or element.kind == "segment":
-            raise Unreadable(f"there is no {kind} {name}")
+        groups = {"receipt": "point", "delivery": "point", "pool": "pool"}
+        table = self.question.places if kind == "place" else self.question.elements
+        need(kind == "place" or groups.get(known(table, name).kind) == kind, f"there is no {kind} {name}")
+        known(table, name)
         self.members.add((kind, name))
-
-
-def tell_first(name, faults):
-    for item, words in faults:
-        raise Wrong(name, item, words)
 
 
 def check_schedule(question, quantities):
@@ -273,15 +239,18 @@ def check_schedule(question, quantities):
     if len(quantities) != len(question.lines):
         raise Wrong("Shape", None, f"{len(quantities)} quantities for {len(question.lines)} lines")
     given = list(enumerate(zip(question.lines, quantities), 1))
-    tell_first("BelowFloor", ((at, f"line {at} has {quantity}, below its floor of {line.floor}")
-                              for at, (line, quantity) in given if quantity < line.floor))
-    tell_first("AboveCeiling", ((at, f"line {at} has {quantity}, above its ceiling of {line.ceiling}")
-                                for at, (line, quantity) in given if quantity > line.ceiling))
-    loads, elements = question.loads(quantities), question.in_order()
-    tell_first("OverCapacity", ((e.name, f"{e.name} carries {loads[e.name]}, above its capacity of {e.capacity}")
-                                for e in elements if e.kind != "pool" and loads[e.name] > e.capacity))
-    tell_first("Unbalanced", ((e.name, f"what enters pool {e.name} less what leaves it is {loads[e.name]}, not 0")
-                              for e in elements if e.kind == "pool" and loads[e.name]))
+    for at, (line, quantity) in given:
+        if quantity < line.floor:
+            raise Wrong("BelowFloor", at, f"line {at} has {quantity}, below its floor of {line.floor}")
+    for at, (line, quantity) in given:
+        if quantity > line.ceiling:
+            raise Wrong("AboveCeiling", at, f"line {at} has {quantity}, above its ceiling of {line.ceiling}")
+    loads = question.loads(quantities)
+    for name, kind, _, capacity in question.in_order():  # pools come last
+        if kind != "pool" and loads[name] > capacity:
+            raise Wrong("OverCapacity", name, f"{name} carries {loads[name]}, above its capacity of {capacity}")
+        if kind == "pool" and loads[name] != 0:
+            raise Wrong("Unbalanced", name, f"what enters pool {name} less what leaves it is {loads[name]}, not 0")
     return loads
 
 
@@ -295,45 +264,36 @@ def check_best(question, quantities, prices):
         if kind != "pool" and price < NOTHING and load != 0:
             raise Wrong("PriceOnSlack", name, f"{name} has a price below zero, but carries {load} and not 0")
     given = list(enumerate(zip(question.lines, quantities, question.costs(prices)), 1))
-    tell_first("Underfilled", ((at, f"line {at} is below its ceiling, and its next dekatherm is worth more than it pays")
-                               for at, (line, quantity, cost) in given
-                               if quantity < line.ceiling and worth_of(line, quantity + 1) > cost))
-    tell_first("Overfilled", ((at, f"line {at} is above its floor, and its last dekatherm is worth less than it pays")
-                              for at, (line, quantity, cost) in given
-                              if quantity > line.floor and worth_of(line, quantity) < cost))
+    for at, (line, quantity, cost) in given:
+        if quantity < line.ceiling and worth_of(line, quantity + 1) > cost:
+            raise Wrong("Underfilled", at, f"line {at} is below its ceiling, and its next dekatherm is worth more than it pays")
+    for at, (line, quantity, cost) in given:
+        if quantity > line.floor and worth_of(line, quantity) < cost:
+            raise Wrong("Overfilled", at, f"line {at} is above its floor, and its last dekatherm is worth less than it pays")
 
 
-class Excess(NamedTuple):
-    """Of a set: the lines and the elements that count, each with its quantity."""
-
-    must_leave: list  # lines by number that start inside and end outside, with their floors
-    can_return: list  # lines by number that start outside and end inside, with their ceilings
-    can_flow: list  # elements by name that lead out, with their capacities
-
-    def sums(self):
-        return [sum(quantity for _, quantity in part) for part in self]
-
-    def total(self):
-        leave, back, flow = self.sums()
-        return leave - back - flow
-
-
-def excess_of(question, members):
+def crossing_of(question, members):
+    """What counts of a set, each with its quantity: lines that start inside and end outside, by number, with their floors;
+    lines that start outside and end inside, with their ceilings; and elements that lead out, with their capacities."""
     places = {question.places[name] for kind, name in members if kind == "place"}
     ends = {name for kind, name in members if kind != "place"}
-    excess = Excess([], [], [])
-    for at, line in enumerate(question.lines, 1):
-        if line.origin in ends and line.destination not in ends:
-            excess.must_leave.append((at, line.floor))
-        if line.origin not in ends and line.destination in ends:
-            excess.can_return.append((at, line.ceiling))
+    sides = [(at, line, line.origin in ends, line.destination in ends) for at, line in enumerate(question.lines, 1)]
+    must_leave = [(at, line.floor) for at, line, start, end in sides if start and not end]
+    can_return = [(at, line.ceiling) for at, line, start, end in sides if end and not start]
+    can_flow = []
     for name, kind, where, capacity in question.in_order():
         start, end = where[0] in places, where[-1] in places
-        leads_out = {"segment": start and not end, "receipt": name in ends and not start,
-                     "delivery": start and name not in ends, "pool": False}
-        if leads_out[kind]:
-            excess.can_flow.append((name, capacity))
-    return excess
+        start, end = {"segment": (start, end), "receipt": (name in ends, start), "delivery": (start, name in ends),
+                      "pool": (False, False)}[kind]
+        if start and not end:
+            can_flow.append((name, capacity))
+    return must_leave, can_return, can_flow
+
+
+def sums_of(crossing):
+    """What must leave, what can come back, what can flow out, and the excess."""
+    leave, back, flow = (sum(quantity for _, quantity in part) for part in crossing)
+    return leave, back, flow, leave - back - flow
 
 
 def verdict_of(question, answer):
@@ -341,11 +301,11 @@ def verdict_of(question, answer):
     if not answer.is_cut:
         check_best(question, answer.quantities, answer.prices)
         return "the schedule is allowed, and the prices show it best"
-    excess = excess_of(question, answer.members)
-    words = "{} must leave the set, {} can come back and {} can flow out".format(*excess.sums())
-    if excess.total() <= 0:
+    leave, back, flow, excess = sums_of(crossing_of(question, answer.members))
+    words = f"{leave} must leave the set, {back} can come back and {flow} can flow out"
+    if excess <= 0:
         raise Wrong("NotCut", None, f"the set is no cut: {words}")
-    return f"the set is a cut, so no schedule is allowed: {words}, {excess.total()} too many must leave"
+    return f"the set is a cut, so no schedule is allowed: {words}, {excess} too many must leave"
 
 
 def main():
@@ -353,9 +313,9 @@ def main():
         print(__doc__.strip())
         return 2
     try:
-        texts = [open(path, encoding="ascii", newline="").read() for path in sys.argv[1:]]
-        question = Question(texts[0])
-        print(f"holds: {verdict_of(question, Answer(texts[1], question))}")
+        question_text, answer_text = (open(path, encoding="ascii", newline="").read() for path in sys.argv[1:])
+        question = Question(question_text)
+        print(f"holds: {verdict_of(question, Answer(answer_text, question))}")
     except (OSError, UnicodeError, Unreadable) as error:
         print(f"unreadable: {error}")
         return 2

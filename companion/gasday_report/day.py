@@ -13,6 +13,9 @@ DETAILS = ("bound", "total", "sched", "bumped", "inside")
 FIELDS = {"nominate": 8, "respond": 6, "post": 4, "publish": 3, "declare": 3, "waive": 3,
           "accepted": 4, "done": 2, "frozen": 5, "published": 4, "declared": 4, "refused": 4}
 
+# The six times of a cycle, in the order of its row.
+TIMES = ("nominations leave", "received", "quick response", "confirmed", "schedules out", "in effect")
+
 REFUSALS = {
     "DayClosed": "it comes too late for every cycle of the gas day",
     "UnknownContract": "the contract is not known",
@@ -55,7 +58,7 @@ class Day(NamedTuple):
     date: str
     book: str
     clock: object
-    cycles: list  # the number of each cycle with its times in words
+    cycles: list  # the number of each cycle with its six times in words
     calls: list
 
 
@@ -145,8 +148,7 @@ def cycles_of(program, row, clock):
     out, _ = call_program(program, ["calendar"], written([row]))
     for told in of_kinds(rows_in(out, "gasday calendar"), ("cycle",)):
         number, *moments = (number_of(field, "gasday calendar") for field in told[1:])
-        times = [clock.show(moment) for moment in moments]
-        yield number, f"nominations received by {times[1]}, confirmed by {times[3]}, in effect from {times[5]}"
+        yield number, [clock.show(moment) for moment in moments]
 
 
 def day_verdict(program, events, replies):

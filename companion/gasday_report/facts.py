@@ -44,7 +44,7 @@ class Facts(NamedTuple):
     lines: list
     elements: list
     totals: list  # of each class with a line: class, ceilings, scheduled
-    excess: object  # of a cut
+    sums: object  # of a cut: what must leave, what can come back, what can flow out, and the excess
     members: list  # of a cut: kind and name, in order of entry
     asked: object  # the question as certificate.py read it
 
@@ -67,9 +67,10 @@ def scheduled_lines(asked, answer, loads, bumped):
         yield LineFact(number, *line, quantity, line.ceiling - quantity, more, reasons.reason(number), "", None)
 
 
-def cut_lines(asked, excess):
-    ways = {number: ("out", quantity) for number, quantity in excess.must_leave}
-    ways.update((number, ("in", quantity)) for number, quantity in excess.can_return)
+def cut_lines(asked, crossing):
+    must_leave, can_return, _ = crossing
+    ways = {number: ("out", quantity) for number, quantity in must_leave}
+    ways.update((number, ("in", quantity)) for number, quantity in can_return)
     for number, line in enumerate(asked.lines, 1):
         yield LineFact(number, *line, None, None, None, None, *ways.get(number, ("", None)))
 
@@ -82,10 +83,10 @@ def entering(asked, quantities):
     return sums
 
 
-def element_facts(asked, rows, loads, answer, excess):
+def element_facts(asked, rows, loads, answer, crossing):
     operators = {row[1]: row[4 if row[0] == "point" else 3] for row in of_kinds(rows, ("point", "pool"))}
     names, into = list(asked.places), entering(asked, answer.quantities)
-    ways_out = dict(excess.can_flow) if excess else {}
+    ways_out = dict(crossing[2]) if crossing else {}
     for element in asked.in_order():
         pool = element.kind == "pool"
         load = None if loads is None else into.get(element.name, 0) if pool else loads[element.name]
@@ -96,7 +97,7 @@ def element_facts(asked, rows, loads, answer, excess):
             names[element.ends[1]] if element.kind == "segment" else "", operators.get(element.name, ""),
             None if pool else element.capacity, load, None if pool or load is None else element.capacity - load,
             price if price != certificate.NOTHING else None,
-            None if excess is None or element.kind == "segment" else member, ways_out.get(element.name))
+            None if crossing is None or element.kind == "segment" else member, ways_out.get(element.name))
 
 
 def totals_of(lines):
@@ -118,11 +119,11 @@ def facts_of(question, answer_file, asked, answer):
     """The facts of a question and an answer that passed."""
     rows = question.rows()
     head = of_kinds(rows, ("question",))[0]
-    excess = certificate.excess_of(asked, answer.members) if answer.is_cut else None
+    crossing = certificate.crossing_of(asked, answer.members) if answer.is_cut else None
     loads = None if answer.is_cut else asked.loads(answer.quantities)
     bumped = bumped_of(answer_file.rows(), len(asked.lines))
-    lines = list(cut_lines(asked, excess) if excess else scheduled_lines(asked, answer, loads, bumped))
-    elements = list(element_facts(asked, rows, loads, answer, excess))
-    members = members_of(asked, answer) if excess else []
+    lines = list(cut_lines(asked, crossing) if crossing else scheduled_lines(asked, answer, loads, bumped))
+    elements = list(element_facts(asked, rows, loads, answer, crossing))
+    members, sums = (members_of(asked, answer), certificate.sums_of(crossing)) if crossing else ([], None)
     cycle, times = number_of(head[2], "question"), number_of(head[3], "question")
-    return Facts(head[1], cycle, times, answer.is_cut, lines, elements, totals_of(lines), excess, members, asked)
+    return Facts(head[1], cycle, times, answer.is_cut, lines, elements, totals_of(lines), sums, members, asked)

@@ -3,6 +3,7 @@
 import json
 from html import escape
 
+from .day import TIMES
 from .page_script import SCRIPT
 from .page_style import STYLE
 from .picture import picture_of
@@ -81,9 +82,9 @@ def schedule_html(facts):
 
 
 def cut_html(facts):
-    leave, back, flow = facts.excess.sums()
+    leave, back, flow, excess = facts.sums
     words = (f'<p class="sum"><b>{leave}</b> must leave \u2212 <b>{back}</b> can come back \u2212 <b>{flow}</b> can flow out'
-             f" = <b>{facts.excess.total()}</b> too many</p>")
+             f" = <b>{excess}</b> too many</p>")
     return "".join([
         section("There is no schedule", words, f"<p>The set: {escape(set_in_words(facts))}.</p>",
                 f"<p>{escape(excess_words(facts))}.</p>", f'<p class="note">{escape(CUT_NOTE)}</p>'),
@@ -92,9 +93,11 @@ def cut_html(facts):
 
 
 def day_html(day):
-    rows = "".join(f"<tr><td>{cycle}</td><td>{CYCLES[cycle]}</td><td>{escape(words)}</td></tr>" for cycle, words in day.cycles)
+    heads = "".join(f"<th>{escape(name)}</th>" for name in ("cycle", *TIMES))
+    rows = "".join(f"<tr>{''.join(f'<td>{escape(word)}</td>' for word in (CYCLES[cycle], *times))}</tr>"
+                   for cycle, times in day.cycles)
     return "".join([
-        section(f"Gas day {day.date}, book {day.book}", f'<table class="inputs">{rows}</table>',
+        section(f"Gas day {day.date}, book {day.book}", f'<div class="scroll"><table class="data times"><tr>{heads}</tr>{rows}</table></div>',
                 f'<div class="picture">{timeline_of(day)}</div>',
                 f'<p class="note">Times are by the clock of {escape(day.clock.name)}.</p>'),
         section("Calls", '<div id="calls"></div>')])

@@ -33,9 +33,9 @@ def element_of(element):
 
 
 def cut_of(facts):
-    leave, back, flow = facts.excess.sums()
+    leave, back, flow, excess = facts.sums
     members = [{"kind": kind, "name": name} for kind, name in facts.members]
-    return {"excess": facts.excess.total(), "must_leave": leave, "can_return": back, "can_flow": flow, "members": members}
+    return {"excess": excess, "must_leave": leave, "can_return": back, "can_flow": flow, "members": members}
 
 
 def facts_of(facts):

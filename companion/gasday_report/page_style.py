@@ -67,6 +67,7 @@ svg g:hover > .line { filter: brightness(0.8); }
 .data .short { background: #fffaf0; } .data .mark-short { color: #9a5b00; font-weight: 600; }
 .data .bumped, .data .refused { background: #fdf1f0; }
 .data .mark-bumped, .data .mark-refused, .data .mark-full { color: var(--bad); font-weight: 600; }
+.data.times { margin: 0 0 14px; font-size: 13px; }
 .data .crosses { background: #fffbe9; }
 ul.notes { margin: 0; padding-left: 20px; } ul.notes li { margin: 3px 0; }
 @media print { body { background: #fff; } .tools, .picture { overflow: visible; max-height: none; } }

@@ -76,12 +76,12 @@ def cut_element_table(facts):
 
 def call_table(day, texts):
     columns = [column("call", number=True), column("moment", name=True), column("kind", name=True), column("asked"),
-               column("told"), column("in detail"), column("refused")]
+               column("refused"), column("told"), column("in detail")]
     rows = []
     for call in day.calls:
         details = call.details[:MOST_DETAILS]
         if len(call.details) > MOST_DETAILS:
             details.append(f"and {len(call.details) - MOST_DETAILS} more")
-        rows.append([call.number, call.moment, call.kind, call.asked, call.told, [texts.number(word) for word in details],
-                     "refused" if call.refused else ""])
-    return {"id": "calls", "columns": columns, "rows": rows, "marks": [mark("refused", 6, "refused")], "choice": 2}
+        rows.append([call.number, call.moment, call.kind, call.asked, "refused" if call.refused else "", call.told,
+                     [texts.number(word) for word in details]])
+    return {"id": "calls", "columns": columns, "rows": rows, "marks": [mark("refused", 4, "refused")], "choice": 2}

@@ -1,5 +1,6 @@
 """The report as plain text."""
 
+from .day import TIMES
 from .words import CUT_NOTE, CYCLES, PRICE_NOTES, counted, listed, price_in_words
 
 KINDS = {"segment": "segment", "receipt": "receipt point", "delivery": "delivery point", "pool": "pool"}
@@ -76,13 +77,12 @@ def set_in_words(facts):
 
 
 def excess_words(facts):
-    leave, back, flow = facts.excess.sums()
-    return (f"{leave} must leave, {back} can come back and {flow} can flow out, so {facts.excess.total()} too many must"
-            " leave: the excess")
+    leave, back, flow, excess = facts.sums
+    return f"{leave} must leave, {back} can come back and {flow} can flow out, so {excess} too many must leave: the excess"
 
 
 def cut_rows(facts):
-    leave, back, flow = facts.excess.sums()
+    leave, back, flow, _ = facts.sums
     yield f"The set: {set_in_words(facts)}"
     yield ""
     yield f"What must leave it, by the floors of the lines that start inside and end outside: {leave}"
@@ -98,8 +98,8 @@ def cut_rows(facts):
 
 def day_rows(day):
     yield f"Gas day {day.date}, book {day.book}, by the clock of {day.clock.name}"
-    for cycle, words in day.cycles:
-        yield f"  {CYCLES[cycle]}: {words}"
+    for cycle, times in day.cycles:
+        yield f"  {CYCLES[cycle]}: " + ", ".join(f"{name} {time}" for name, time in zip(TIMES, times))
     yield ""
     yield "Calls"
     for call in day.calls:
