@@ -20,7 +20,8 @@ LEGEND = """<div class="legend"><span><i style="background:var(--idle)"></i>carr
 <span>the wider, the more it carries</span><span><i class="box" style="background:#eef7ef"></i>receipt point</span>
 <span><i class="box" style="background:#eef3fb"></i>delivery point</span>
 <span><i class="box" style="background:#f4effa;border-style:dashed;border-color:#7b5ea7"></i>pool</span></div>"""
-CUT_LEGEND = """<div class="legend"><span><i class="box" style="background:#ffe08a;border-color:#b8860b"></i>inside the cut's set</span>
+CUT_LEGEND = """<div class="legend">
+<span><i class="box" style="background:#ffe08a;border-color:#b8860b"></i>inside the cut's set</span>
 <span><i style="background:var(--full)"></i>leads out of the set</span><span>numbers are capacities</span></div>"""
 
 

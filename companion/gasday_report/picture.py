@@ -139,7 +139,8 @@ def arrow_of(points, width):
 def edge_svg(element, points, greatest):
     width = width_for(element.load, greatest)
     arrow = "" if element.kind == "pool" else f'<path class="head" d="{arrow_of(points, width)}"/>'
-    return (f'<g class="edge {element.kind} {style_of(element)}" data-name="{escape(element.name)}"><title>{hover_of(element)}</title>'
+    return (f'<g class="edge {element.kind} {style_of(element)}" data-name="{escape(element.name)}">'
+            f"<title>{hover_of(element)}</title>"
             f'<path class="line" d="{curve_of(points)}" stroke-width="{width:.1f}"/>{arrow}</g>')
 
 

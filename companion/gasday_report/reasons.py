@@ -6,9 +6,15 @@ from typing import NamedTuple
 from certificate import NOTHING, plus, tenth_of, worth_of
 from .words import counted, displaced, full, listed
 
-# A route may have thousands of priced segments: so many are looked at from each end, and so many are named.
+# A route may have thousands of priced segments: so many of a rank are looked at from each end, and so many are named.
 MOST_LOOKED_AT = 32
 MOST_NAMED = 3
+
+
+def rank_of(amount):
+    """Greater amounts have lesser ranks, by their first word that isn't 0: it decides before all words behind it."""
+    at = next(k for k, word in enumerate(amount) if word)
+    return at if amount[at] > 0 else 2 * len(amount) - at
 
 
 class Payment(NamedTuple):
@@ -21,7 +27,7 @@ class Payment(NamedTuple):
 class Reason(NamedTuple):
     elements: list  # by name, those that pay most first
     words: list  # a sentence of each
-    more: int  # priced elements of the route that are not named
+    more: int  # elements of the route with a price that are not named
     rest: str  # how the next dekatherm's worth compares
 
 
@@ -40,7 +46,8 @@ class Reasons:
     def __init__(self, question, answer, loads):
         self.question, self.prices, self.loads = question, answer.prices, loads
         self.quantities, self.costs = answer.quantities, question.costs(answer.prices)
-        self.priced_above = self.find_priced()
+        self.ranks = [rank_of(price) if price != NOTHING else None for price in map(self.price, question.segment_at)]
+        self.priced_above = {rank: self.find_priced(rank) for rank in sorted(set(self.ranks) - {None})}
         self.priced_count = self.count_priced()
         self.lines_out, self.lines_in = self.lines_of_pools()
         self.traces = {}
@@ -48,12 +55,11 @@ class Reasons:
     def price(self, name):
         return self.prices.get(name, NOTHING)
 
-    def find_priced(self):
-        """For each place the nearest one, itself or above it, whose segment upwards has a price; else None."""
+    def find_priced(self, rank):
+        """For each place the nearest one, itself or above it, whose segment upwards has a price of this rank; else None."""
         nearest = [None]
         for place in range(1, len(self.question.parent)):
-            priced = self.price(self.question.segment_at[place]) != NOTHING
-            nearest.append(place if priced else nearest[self.question.parent[place]])
+            nearest.append(place if self.ranks[place] == rank else nearest[self.question.parent[place]])
         return nearest
 
     def count_priced(self):
@@ -61,8 +67,8 @@ class Reasons:
         it passes."""
         counts = [0]
         for place in range(1, len(self.question.parent)):
-            priced = self.price(self.question.segment_at[place]) != NOTHING
-            counts.append(counts[self.question.parent[place]] + priced * (1 if self.question.upward[place] else -1))
+            step = 1 if self.question.upward[place] else -1
+            counts.append(counts[self.question.parent[place]] + (step if self.ranks[place] is not None else 0))
         return counts
 
     def lines_of_pools(self):
@@ -73,30 +79,43 @@ class Reasons:
                     table.setdefault(end, []).append(number)
         return out, into
 
-    def priced_segments(self, start, end):
-        """The first priced segments of the route between two places, from either end."""
-        question, found = self.question, []
+    def segments_of_rank(self, rank, start, end):
+        """The first segments of the route between two places whose price has a rank, from either end."""
+        question, above, found = self.question, self.priced_above[rank], []
         for foot, other in ((start, end), (end, start)):
-            place = self.priced_above[foot]
+            place = above[foot]
             for _ in range(MOST_LOOKED_AT):
                 if place is None or question.has_below(place, other):
                     break
                 found.append(question.segment_at[place])
-                place = self.priced_above[question.parent[place]]
+                place = above[question.parent[place]]
+        return found
+
+    def priced_segments(self, start, end):
+        """Segments of the route with the greatest prices, and those with prices below zero: no less than are named, if
+        there are so many."""
+        found = []
+        above_zero = [rank for rank in self.priced_above if rank < len(NOTHING)]
+        below_zero = [rank for rank in reversed(self.priced_above) if rank > len(NOTHING)]
+        for ranks in (above_zero, below_zero):
+            side = []
+            for rank in ranks:
+                if len(side) < MOST_NAMED:
+                    side += self.segments_of_rank(rank, start, end)
+            found += side
         return found
 
     def payments(self, number):
-        """What the line pays, the most first, then what it gets back, in lists of their own; and how many priced elements
-        of its route were not looked at."""
+        """The most that the line pays and gets back, in lists that the greatest begin; and how many elements of its route
+        have a price."""
         line, question = self.question.lines[number - 1], self.question
         start, end = question.place_of(line.origin), question.place_of(line.destination)
-        segments = self.priced_segments(start, end)
-        missed = self.priced_count[start] - self.priced_count[end] - len(segments)
-        paid = [Payment(name, self.price(name)) for name in (*segments, line.destination)]
-        paid.append(Payment(line.origin, plus(NOTHING, question.sign_at(line.origin), self.price(line.origin))))
-        back = [payment for payment in paid if payment.amount < NOTHING]
-        paid = [payment for payment in paid if payment.amount > NOTHING]
-        return sorted(paid, key=lambda payment: payment.amount, reverse=True), back, missed
+        amounts = [Payment(name, self.price(name)) for name in (*self.priced_segments(start, end), line.destination)]
+        amounts.append(Payment(line.origin, plus(NOTHING, question.sign_at(line.origin), self.price(line.origin))))
+        paid = sorted((p for p in amounts if p.amount > NOTHING), key=lambda payment: payment.amount, reverse=True)
+        back = sorted((p for p in amounts if p.amount < NOTHING), key=lambda payment: payment.amount)
+        count = self.priced_count[start] - self.priced_count[end]
+        return paid, back, count + sum(self.price(name) != NOTHING for name in (line.origin, line.destination))
 
     def trace(self, pool, leaving):
         """Follows the lines that could take more out of a pool (or bring more into it) to the full elements on their ways,
@@ -139,9 +158,11 @@ class Reasons:
             if not trace.filled_lines:
                 return f"no line leads {side} {of}"
             return f"{counted(trace.filled_lines, 'line')} {side} {of}, all at the ceiling, so no more can {ways}{through}"
-        named = listed([self.of_element(name) for name in trace.full[:MOST_NAMED]])
-        more = f" and {len(trace.full) - MOST_NAMED} more are full" if len(trace.full) > MOST_NAMED else ""
-        return f"more could {ways}{through} only where {named}{more}"
+        if len(trace.full) == 1:
+            return f"more could {ways}{through} only where {self.of_element(trace.full[0])}"
+        named = [f"{name} ({self.loads[name]} of {self.question.elements[name].capacity})" for name in trace.full[:MOST_NAMED]]
+        more = [f"{len(trace.full) - MOST_NAMED} more"] if len(trace.full) > MOST_NAMED else []
+        return f"more could {ways}{through} only past what is full: {listed(named + more)}"
 
     def words_of(self, payment, line):
         element = self.question.elements[payment.element]
@@ -156,12 +177,11 @@ class Reasons:
         line, quantity = self.question.lines[number - 1], self.quantities[number - 1]
         if quantity >= line.ceiling:
             return None
-        paid, back, missed = self.payments(number)
+        paid, back, count = self.payments(number)
         named = paid[:MOST_NAMED]
         words = [self.words_of(payment, line) for payment in named]
         words += [f"in return, at {element}, {displaced(amount)}" for element, amount in back[:MOST_NAMED]]
         is_less = worth_of(line, quantity + 1) < self.costs[number - 1]
         worth = "is worth less than all that" if is_less else "is worth just that, so nothing would be gained"
         rest = f"its next dekatherm, of class {line.class_number} and tenth {tenth_of(line.ceiling, quantity + 1)}, {worth}"
-        more = missed + len(paid) + len(back) - len(named) - len(back[:MOST_NAMED])
-        return Reason([payment.element for payment in named], words, more, rest)
+        return Reason([payment.element for payment in named], words, count - len(words), rest)

@@ -71,8 +71,8 @@ class Days(ReportTest):
         self.assertIn("   1  2026-03-07 19:15:00 UTC  SHIP nominates 70 under INT, package P, from R1 to D1: accepted as event 1,"
                       " for cycle 1 (Timely), on line 1\n", out)
         self.assertIn("on line 2\n", out)
-        self.assertIn("published as event 10: cycle 2 (Evening), round 2, 50 in class 1 and 50 in class 4 scheduled; 1 line bumped\n",
-                      out)
+        self.assertIn("published as event 10: cycle 2 (Evening), round 2, 50 in class 1 and 50 in class 4 scheduled; 1 line"
+                      " bumped\n", out)
 
     def test_the_cycles(self):
         self.assertIn("Evening: nominations leave 2026-03-08 00:00:00 UTC, received 2026-03-08 00:15:00 UTC", self.day()[0])
@@ -92,12 +92,14 @@ class Days(ReportTest):
         self.assertEqual(self.day(replies=REPLIES + "refused,keep,1,Kept,,,,\n")[2], 0)
 
     def test_refusals_in_words(self):
-        head, zone = EVENTS.split("nominate")[0], "freeze,1772910900,,,,,,\npublish,1772910900,1,,,,,\ndeclare,1772910900,2,,,,,\n"
+        head = EVENTS.split("nominate")[0]
+        calls = "freeze,1772910900,,,,,,\npublish,1772910900,1,,,,,\ndeclare,1772910900,2,,,,,\n"
         told = "refused,freeze,3,TooEarly,,,,\nrefused,publish,1,NotFrozen,,,,\nrefused,declare,2,StaleRound,1,,,\n"
-        out, _, status = self.day(events=head + zone, replies=told, told=told)
+        out, _, status = self.day(events=head + calls, replies=told, told=told)
         self.assertEqual(status, 0)
         for words in ("REFUSED  the cycle is to be frozen: refused, TooEarly: the cycle's confirmation time has not come\n",
-                      "refused, NotFrozen: the book is not frozen\n", "refused, StaleRound: it answers another round; the current one is 1\n"):
+                      "refused, NotFrozen: the book is not frozen\n",
+                      "refused, StaleRound: it answers another round; the current one is 1\n"):
             self.assertIn(words, out)
 
     def test_faults(self):

@@ -60,7 +60,10 @@ class Pages(ReportTest):
         """No valid name has such letters, but a fake program lets one pass."""
         spoiled = "<script>x&\"'</script>"
         field = '"' + spoiled.replace('"', '""') + '"'
-        question = TWO_LINES.replace(",OPR,", f",{field},").replace("R1", field).replace("DEMO", field).replace(",A,", f",{field},")
+        question = TWO_LINES
+        for name in ("OPR", "R1", "DEMO"):
+            question = question.replace(f",{name},", f",{field},")
+        question = question.replace(",A,", f",{field},")
         text = self.page(question, TWO_LINES_ANSWER, TWO_LINES_TOLD)
         self.assertEqual(text.count("<script"), 2)
         self.assertNotIn("x&\"", text)
@@ -109,7 +112,8 @@ class Pages(ReportTest):
     def test_a_large_pipeline_is_drawn_in_part(self):
         """A chain of 100 places whose gas enters at place 60: the part must hold where it flows."""
         rows = [f"segment,S{k},L{k},L{k + 1},9,,,\n" for k in range(99)]
-        rows += ["point,R1,receipt,L60,OP,9,,\n", "point,D1,delivery,L99,OP,9,,\n", "question,CHAIN,1,1,,,,\n", "line,R1,D1,1,0,5,,\n"]
+        rows += ["point,R1,receipt,L60,OP,9,,\n", "point,D1,delivery,L99,OP,9,,\n", "question,CHAIN,1,1,,,,\n"]
+        rows.append("line,R1,D1,1,0,5,,\n")
         text = self.page("".join(rows), "sched,1,5,,,,,\n", "best,,,,,,,\ntotal,1,5,,,,,\n")
         self.assertIn(f"{PART_PLACES} of 100 places with 1 of 2 points and pools", text)
         places = [word for word in re.findall(r"<title>place (L\d+)</title>", text)]
@@ -139,8 +143,8 @@ class Layouts(unittest.TestCase):
 
     def test_what_dot_prints(self):
         """Inches from below become 72 to an inch from above."""
-        text = ("graph 1 3 2\nnode n0 0.5 1.5 0.8 0.4 \"\" solid box black lightgrey\nnode n1 2.5 0.5 0.8 0.4 \"\" solid box black"
-                " lightgrey\nedge n0 n1 4 0.9 1.5 1 1 2 1 2.1 0.5 \"xx\\nx\" 1.5 1.25 solid black\nstop\n")
+        text = ("graph 1 3 2\nnode n0 0.5 1.5 0.8 0.4 \"\" solid box black lightgrey\n"
+                "node n1 2.5 0.5 0.8 0.4 \"\" solid box black lightgrey\nedge n0 n1 4 0.9 1.5 1 1 2 1 2.1 0.5 \"xx\\nx\" 1.5 1.25 solid black\nstop\n")
         made = read_plain(text, self.NODES[:2])
         self.assertEqual((made.width, made.height), (216, 144))
         self.assertEqual(made.nodes, {"a": (36, 36), "b": (180, 108)})

@@ -177,10 +177,12 @@ class Json(ReportTest):
         whole = self.whole(TWO_LINES, TWO_LINES_ANSWER, TWO_LINES_TOLD)
         self.assertEqual((whole["report"], whole["version"], whole["passed"], whole["kind"]), ("gasday-report", 1, True, "best"))
         self.assertEqual(whole["question"], {"book": "DEMO", "cycle": 1, "round": 1})
-        self.assertEqual(whole["totals"], [{"class": 1, "ceiling": 80, "scheduled": 80}, {"class": 4, "ceiling": 50, "scheduled": 20}])
+        self.assertEqual(whole["totals"], [{"class": 1, "ceiling": 80, "scheduled": 80},
+                                           {"class": 4, "ceiling": 50, "scheduled": 20}])
         self.assertEqual(whole["lines"][0]["reason"], None)
         self.assertEqual((whole["lines"][1]["short"], whole["lines"][1]["reason"]["elements"]), (30, ["S1"]))
-        self.assertEqual(whole["elements"][0]["price"], {"classes": [0, 0, 0, 1, 0, 0, 0, 0], "spread": [0, 0, 0, -4, 0, 0, 0, 0]})
+        price = {"classes": [0, 0, 0, 1, 0, 0, 0, 0], "spread": [0, 0, 0, -4, 0, 0, 0, 0]}
+        self.assertEqual(whole["elements"][0]["price"], price)
         self.assertEqual(whole["inputs"][0]["sha256"], hashlib.sha256(TWO_LINES.encode()).hexdigest())
 
     def test_a_cut(self):
