@@ -75,7 +75,7 @@ def asked_words(row):
         return f"{row[2]} confirms {row[5]} at the {'origin' if row[4] == 'origin' else 'destination'} of line {row[3]}"
     if kind == "post":
         return f"{row[2]} is posted at {row[3]}"
-    words = {"freeze": "the cycle is to be frozen", "settle": "its question is to be solved",
+    words = {"freeze": "the cycle is to be frozen", "settle": "the frozen question is to be solved",
              "skip": "the cycle is to be skipped", "publish": f"a schedule is offered for round {row[2]}",
              "declare": f"a cut is offered for round {row[2]}", "waive": f"line {row[2]} gives up its protection"}
     return words[kind]

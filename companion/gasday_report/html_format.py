@@ -8,10 +8,11 @@ from .page_script import SCRIPT
 from .page_style import STYLE
 from .picture import picture_of
 from .page_tables import Texts, call_table, cut_element_table, cut_line_table, element_table, line_table
-from .text_format import excess_words, set_in_words
+from .text_format import set_in_words
 from .timeline import timeline_of
 from .words import CUT_NOTE, CYCLES, PRICE_NOTES, counted
 
+TIMELINE_NOTE = "Green: published or skipped. Red: refused, or no schedule. Blue: all other calls. Hover for what was told."
 POLICY = "default-src 'none'; style-src 'unsafe-inline'; script-src 'unsafe-inline'; base-uri 'none'; form-action 'none'"
 
 LEGEND = """<div class="legend"><span><i style="background:var(--idle)"></i>carries nothing</span>
@@ -63,7 +64,8 @@ def totals_html(facts):
     rows = []
     for number, asked, given in facts.totals:
         share = 100 * given / asked if asked else 0
-        rows.append(f'<tr><td>class {number}</td><td class="wide"><div class="bar"><i style="width:{share:.2f}%"></i></div></td>'
+        bar = f'<div class="bar"><i style="width:{share:.2f}%"></i></div>'
+        rows.append(f'<tr><td>class {number}</td><td class="wide">{bar}</td>'
                     f"<td>{given} of {asked}</td></tr>")
     return f'<table class="bars">{"".join(rows)}</table>'
 
@@ -85,10 +87,10 @@ def schedule_html(facts):
 def cut_html(facts):
     leave, back, flow, excess = facts.sums
     words = (f'<p class="sum"><b>{leave}</b> must leave \u2212 <b>{back}</b> can come back \u2212 <b>{flow}</b> can flow out'
-             f" = <b>{excess}</b> too many</p>")
+             f" = <b>{excess}</b> too many, the excess</p>")
     return "".join([
         section("There is no schedule", words, f"<p>The set: {escape(set_in_words(facts))}.</p>",
-                f"<p>{escape(excess_words(facts))}.</p>", f'<p class="note">{escape(CUT_NOTE)}</p>'),
+                f'<p class="note">{escape(CUT_NOTE)}</p>'),
         picture_html(facts), section("Lines", '<div id="lines"></div>'),
         section("Segments, points and pools", '<div id="elements"></div>')])
 
@@ -97,10 +99,11 @@ def day_html(day):
     heads = "".join(f"<th>{escape(name)}</th>" for name in ("cycle", *TIMES))
     rows = "".join(f"<tr>{''.join(f'<td>{escape(word)}</td>' for word in (CYCLES[cycle], *times))}</tr>"
                    for cycle, times in day.cycles)
+    times = f'<div class="scroll"><table class="data times"><tr>{heads}</tr>{rows}</table></div>'
     return "".join([
-        section(f"Gas day {day.date}, book {day.book}", f'<div class="scroll"><table class="data times"><tr>{heads}</tr>{rows}</table></div>',
+        section(f"Gas day {day.date}, book {day.book}", times,
                 f'<div class="picture">{timeline_of(day)}</div>',
-                f'<p class="note">Times are by the clock of {escape(day.clock.name)}.</p>'),
+                f'<p class="note">Times are by the clock of {escape(day.clock.name)}. {TIMELINE_NOTE}</p>'),
         section("Calls", '<div id="calls"></div>')])
 
 

@@ -14,6 +14,7 @@ PART_PLACES, PART_ENDS = 30, 40
 MOST_WIDTH = 1900
 WIDEST, NARROWEST = 12, 1.5
 LETTER, HEIGHT = 6.6, 26
+HIGHER = 5  # a label stands so much higher at most, where its line is wide
 
 
 class Part(NamedTuple):
@@ -145,7 +146,7 @@ def edge_svg(element, points, greatest):
 
 
 def label_svg(segment, middle, greatest):
-    x, y = middle
+    x, y = middle[0], middle[1] - min(width_for(segment.load, greatest) / 2, HIGHER)
     busiest = ' id="busiest"' if greatest and segment.load == greatest else ""
     return (f'<g class="label"{busiest} data-name="{escape(segment.name)}"><title>{hover_of(segment)}</title>'
             f'<text x="{x:.1f}" y="{y - 2:.1f}">{escape(segment.name)}</text>'

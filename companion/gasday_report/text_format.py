@@ -76,13 +76,8 @@ def set_in_words(facts):
     return "; ".join(words)
 
 
-def excess_words(facts):
-    leave, back, flow, excess = facts.sums
-    return f"{leave} must leave, {back} can come back and {flow} can flow out, so {excess} too many must leave: the excess"
-
-
 def cut_rows(facts):
-    leave, back, flow, _ = facts.sums
+    leave, back, flow, excess = facts.sums
     yield f"The set: {set_in_words(facts)}"
     yield ""
     yield f"What must leave it, by the floors of the lines that start inside and end outside: {leave}"
@@ -92,7 +87,7 @@ def cut_rows(facts):
     yield f"What can flow out, by the capacities of the segments and points that lead out: {flow}"
     yield from (f"  {KINDS[e.kind]} {e.name}: {e.cut_capacity}" for e in facts.elements if e.cut_capacity is not None)
     yield ""
-    yield excess_words(facts) + "."
+    yield f"{leave} must leave, {back} can come back and {flow} can flow out, so {excess} too many must leave: the excess."
     yield CUT_NOTE
 
 

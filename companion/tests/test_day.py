@@ -68,8 +68,8 @@ class Days(ReportTest):
         self.assertEqual(status, 0)
         self.assertIn("PASS  gasday day", out)
         # README.md: Sat Mar 7 13:15:00 CST 2026 is 1772910900, so 19:15 in UTC.
-        self.assertIn("   1  2026-03-07 19:15:00 UTC  SHIP nominates 70 under INT, package P, from R1 to D1: accepted as event 1,"
-                      " for cycle 1 (Timely), on line 1\n", out)
+        self.assertIn("   1  2026-03-07 19:15:00 UTC  SHIP nominates 70 under INT, package P, from R1 to D1: accepted as event"
+                      " 1, for cycle 1 (Timely), on line 1\n", out)
         self.assertIn("on line 2\n", out)
         self.assertIn("published as event 10: cycle 2 (Evening), round 2, 50 in class 1 and 50 in class 4 scheduled; 1 line"
                       " bumped\n", out)

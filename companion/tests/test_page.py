@@ -144,7 +144,8 @@ class Layouts(unittest.TestCase):
     def test_what_dot_prints(self):
         """Inches from below become 72 to an inch from above."""
         text = ("graph 1 3 2\nnode n0 0.5 1.5 0.8 0.4 \"\" solid box black lightgrey\n"
-                "node n1 2.5 0.5 0.8 0.4 \"\" solid box black lightgrey\nedge n0 n1 4 0.9 1.5 1 1 2 1 2.1 0.5 \"xx\\nx\" 1.5 1.25 solid black\nstop\n")
+                "node n1 2.5 0.5 0.8 0.4 \"\" solid box black lightgrey\n"
+                "edge n0 n1 4 0.9 1.5 1 1 2 1 2.1 0.5 \"xx\\nx\" 1.5 1.25 solid black\nstop\n")
         made = read_plain(text, self.NODES[:2])
         self.assertEqual((made.width, made.height), (216, 144))
         self.assertEqual(made.nodes, {"a": (36, 36), "b": (180, 108)})

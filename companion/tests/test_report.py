@@ -175,7 +175,8 @@ class Json(ReportTest):
 
     def test_a_schedule(self):
         whole = self.whole(TWO_LINES, TWO_LINES_ANSWER, TWO_LINES_TOLD)
-        self.assertEqual((whole["report"], whole["version"], whole["passed"], whole["kind"]), ("gasday-report", 1, True, "best"))
+        self.assertEqual((whole["report"], whole["version"]), ("gasday-report", 1))
+        self.assertEqual((whole["passed"], whole["kind"]), (True, "best"))
         self.assertEqual(whole["question"], {"book": "DEMO", "cycle": 1, "round": 1})
         self.assertEqual(whole["totals"], [{"class": 1, "ceiling": 80, "scheduled": 80},
                                            {"class": 4, "ceiling": 50, "scheduled": 20}])
