@@ -58,7 +58,9 @@ def add_answer(report, arguments, program):
     dropped = len(of_kinds(question.rows(), ANSWER_KINDS + HEAD_KINDS))
     if dropped:
         report.notes.append(f"Rows of the question's file that belong to an answer were left out: {dropped}.")
-    verdict, _ = program_verdict(program, question, answer)
+    if of_kinds(answer.rows(), ("bumped",)):
+        report.notes.append("What the answer says of bumped lines is shown as it stands: neither check looks at it.")
+    verdict = program_verdict(program, question, answer)
     own, asked, given = own_verdict(question, answer)
     report.verdicts += [verdict, own]
     if verdict.passed and own.passed:

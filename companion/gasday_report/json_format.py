@@ -54,7 +54,7 @@ def day_of(day):
     return {
         "date": day.date, "book": day.book, "clock": day.clock.name,
         "calls": [{"call": call.number, "moment": call.seconds, "local": call.moment, "kind": call.kind,
-                   "refused": call.refused, "asked": call.asked, "told": call.told} for call in day.calls],
+                   "refused": call.refused, "asked": call.asked, "told": call.told, "details": call.details} for call in day.calls],
     }
 
 

@@ -144,9 +144,9 @@ class Table {
 }
 
 const tables = data.tables.map(table => new Table(table));
-const picture = document.querySelector('.picture'), busiest = document.getElementById('busiest');
-if (picture && busiest) {
-  const outer = picture.getBoundingClientRect(), inner = busiest.getBoundingClientRect();
+const picture = document.querySelector('.picture'), first = document.getElementById('first');
+if (picture && first) {
+  const outer = picture.getBoundingClientRect(), inner = first.getBoundingClientRect();
   picture.scrollLeft += inner.left - outer.left - outer.width / 2;
   picture.scrollTop += inner.top - outer.top - outer.height / 2;
 }

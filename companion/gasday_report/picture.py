@@ -145,10 +145,11 @@ def edge_svg(element, points, greatest):
             f'<path class="line" d="{curve_of(points)}" stroke-width="{width:.1f}"/>{arrow}</g>')
 
 
-def label_svg(segment, middle, greatest):
+def label_svg(segment, middle, greatest, is_first):
+    """A segment's name and load; the page brings the first one into view."""
     x, y = middle[0], middle[1] - min(width_for(segment.load, greatest) / 2, HIGHER)
-    busiest = ' id="busiest"' if greatest and segment.load == greatest else ""
-    return (f'<g class="label"{busiest} data-name="{escape(segment.name)}"><title>{hover_of(segment)}</title>'
+    mark = ' id="first"' if is_first else ""
+    return (f'<g class="label"{mark} data-name="{escape(segment.name)}"><title>{hover_of(segment)}</title>'
             f'<text x="{x:.1f}" y="{y - 2:.1f}">{escape(segment.name)}</text>'
             f'<text class="amount" x="{x:.1f}" y="{y + 9:.1f}">{escape(amount_of(segment))}</text></g>')
 
@@ -199,7 +200,9 @@ def picture_of(facts):
     for name in part.places:
         key = "place " + name
         drawn.append(place_svg(name, layout.nodes[key], width[key], name in inside))
-    drawn += [label_svg(element, label, greatest) for element, (_, label) in zip(elements, curves) if label]
+    first = max(part.segments, key=weight_of)
+    labels = [(element, label) for element, (_, label) in zip(elements, curves) if label]
+    drawn += [label_svg(element, label, greatest, element is first) for element, label in labels]
     drawn += [end_svg(end, layout.nodes["end " + end.name], width["end " + end.name]) for end in part.ends]
     box = f"-8 -8 {layout.width + 16:.0f} {layout.height + 16:.0f}"
     fits = ' class="fits"' if layout.width < MOST_WIDTH else ""

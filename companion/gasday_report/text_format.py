@@ -99,6 +99,7 @@ def day_rows(day):
     yield "Calls"
     for call in day.calls:
         yield f"{call.number:>4}  {call.moment}  {'REFUSED  ' if call.refused else ''}{call.asked}: {call.told}"
+        yield from (f"      {words}" for words in call.details)
 
 
 def text_of(report):

@@ -77,15 +77,16 @@ def told_in_words(rows):
 
 def claim_fault(claimed, told):
     """What an answer claims that the check doesn't tell; an answer may claim nothing."""
-    for at, row in enumerate(claimed):
-        if at >= len(told) or row != told[at]:
-            want = ",".join(told[at]).rstrip(",") if at < len(told) else "nothing"
-            return f"the answer says {','.join(row).rstrip(',')} where the check tells {want}"
+    for row in claimed:
+        if row not in told:
+            fields = 2 if row[0] == "total" else 1
+            same = [",".join(other).rstrip(",") for other in told if other[:fields] == row[:fields]]
+            return f"the answer says {','.join(row).rstrip(',')} where the check tells {same[0] if same else 'no such row'}"
     return None
 
 
 def program_verdict(program, question, answer):
-    """What `gasday check ..` says of the question with the answer's own rows behind it; and the rows that it told."""
+    """What `gasday check ..` says of the question with the answer's own rows behind it."""
     rows = answer.rows()
     word = "cut" if is_cut(rows) else "best"
     text = question_text(question) + written(of_kinds(rows, ANSWER_KINDS))
@@ -98,8 +99,8 @@ def program_verdict(program, question, answer):
         raise Fault(f"{by}: not an answer of gasday, with exit status {status}")
     wrong = claim_fault(head_of(rows), told) if status == 0 else None
     if wrong:
-        return Verdict(by, False, wrong), told
-    return Verdict(by, status == 0, told_in_words(told)), told
+        return Verdict(by, False, wrong)
+    return Verdict(by, status == 0, told_in_words(told))
 
 
 def own_verdict(question, answer):

@@ -71,6 +71,8 @@ class Days(ReportTest):
         self.assertIn("   1  2026-03-07 19:15:00 UTC  SHIP nominates 70 under INT, package P, from R1 to D1: accepted as event"
                       " 1, for cycle 1 (Timely), on line 1\n", out)
         self.assertIn("on line 2\n", out)
+        self.assertIn("      line 1, class 4: floor 0, ceiling 70\n", out)
+        self.assertIn("      line 1: bumped by 20\n", out)
         self.assertIn("published as event 10: cycle 2 (Evening), round 2, 50 in class 1 and 50 in class 4 scheduled; 1 line"
                       " bumped\n", out)
 
@@ -111,6 +113,7 @@ class Days(ReportTest):
     def test_json_and_csv(self):
         calls = json.loads(self.day("--format", "json")[0])["day"]["calls"]
         self.assertEqual((len(calls), calls[0]["moment"], calls[0]["refused"]), (10, 1772910900, False))
+        self.assertEqual(calls[9]["details"], ["line 1: 50 scheduled", "line 2: 50 scheduled", "line 1: bumped by 20"])
         self.assertEqual(self.day("--format", "csv")[0].splitlines()[0], "call,moment,local,kind,refused,asked,told")
 
     def test_a_page(self):

@@ -109,6 +109,7 @@ class Texts(ReportTest):
     def test_bumped_lines(self):
         out = self.report(TWO_LINES, TWO_LINES_ANSWER + "bumped,2,7,,,,,\n", TWO_LINES_TOLD)[0]
         self.assertIn("scheduled 20, short by 30, bumped by 7\n", out)
+        self.assertIn("neither check looks at it", out)
 
     def test_a_bumped_line_that_is_not_there(self):
         self.assertEqual(self.report(TWO_LINES, TWO_LINES_ANSWER + "bumped,3,7,,,,,\n", TWO_LINES_TOLD)[2], 2)
