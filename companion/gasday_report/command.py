@@ -10,7 +10,7 @@ from .day import day_of, day_verdict
 from .facts import facts_of
 from .moments import Clock
 from .texts import ANSWER_KINDS, HEAD_KINDS, Fault, of_kinds, read_input
-from .verdicts import own_verdict, program_at, program_verdict
+from .verdicts import own_verdict, program_at, program_verdicts
 
 DESCRIPTION = """Checks an answer of gasday with `gasday check ..` and with certificate.py, and shows after a PASS what it
 says of each line and each element. The exit status is 0 after a PASS, 1 after a FAIL, and 2 after a fault of usage or of
@@ -60,10 +60,10 @@ def add_answer(report, arguments, program):
         report.notes.append(f"Rows of the question's file that belong to an answer were left out: {dropped}.")
     if of_kinds(answer.rows(), ("bumped",)):
         report.notes.append("What the answer says of bumped lines is shown as it stands: neither check looks at it.")
-    verdict = program_verdict(program, question, answer)
+    verdicts = program_verdicts(program, question, answer)
     own, asked, given = own_verdict(question, answer)
-    report.verdicts += [verdict, own]
-    if verdict.passed and own.passed:
+    report.verdicts += [*verdicts, own]
+    if report.passed():
         report.facts = facts_of(question, answer, asked, given)
 
 

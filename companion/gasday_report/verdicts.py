@@ -52,19 +52,12 @@ def call(program, words, text):
     return done.stdout, done.returncode
 
 
-def head_of(rows):
-    """What an answer claims before its own rows: that it is best with these totals, or a cut with this excess."""
-    return [[field.strip() for field in row] for row in rows if row[0] in ("best", "total", "cut")]
-
-
 def is_cut(rows):
     return bool(of_kinds(rows, ("inside", "cut")))
 
 
 def told_in_words(rows):
     """What a check told, in words."""
-    if not rows:
-        return "nothing was told"
     kind, name, item = rows[0][:3]
     if kind == "broken":
         return f"broken, {name}: {BROKEN.get(name, 'the rule of this name is broken at {}').format(item)}"
@@ -75,18 +68,20 @@ def told_in_words(rows):
     return "told: " + ",".join(rows[0]).rstrip(",")
 
 
-def claim_fault(claimed, told):
-    """What an answer claims that the check doesn't tell; an answer may claim nothing."""
-    for row in claimed:
+def claim_verdict(answer, told):
+    """A FAIL where an answer claims what the check doesn't tell; an answer may claim nothing."""
+    for row in of_kinds(answer.rows(), ("best", "total", "cut")):
         if row not in told:
             fields = 2 if row[0] == "total" else 1
             same = [",".join(other).rstrip(",") for other in told if other[:fields] == row[:fields]]
-            return f"the answer says {','.join(row).rstrip(',')} where the check tells {same[0] if same else 'no such row'}"
-    return None
+            words = f"the answer says {','.join(row).rstrip(',')} where the check tells {same[0] if same else 'no such row'}"
+            return [Verdict("the answer's own claim", False, words)]
+    return []
 
 
-def program_verdict(program, question, answer):
-    """What `gasday check ..` says of the question with the answer's own rows behind it."""
+def program_verdicts(program, question, answer):
+    """What `gasday check ..` says of the question with the answer's own rows behind it; after a PASS also whether the
+    answer claims as much."""
     rows = answer.rows()
     word = "cut" if is_cut(rows) else "best"
     text = question_text(question) + written(of_kinds(rows, ANSWER_KINDS))
@@ -97,10 +92,7 @@ def program_verdict(program, question, answer):
         raise Fault(f"{by}: the text has a fault: {','.join(told[0]).rstrip(',')}")
     if status not in (0, 1) or not told or (status == 0) != (told[0][0] == word):
         raise Fault(f"{by}: not an answer of gasday, with exit status {status}")
-    wrong = claim_fault(head_of(rows), told) if status == 0 else None
-    if wrong:
-        return Verdict(by, False, wrong)
-    return Verdict(by, status == 0, told_in_words(told))
+    return [Verdict(by, status == 0, told_in_words(told)), *(claim_verdict(answer, told) if status == 0 else [])]
 
 
 def own_verdict(question, answer):

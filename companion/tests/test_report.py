@@ -51,7 +51,8 @@ class Verdicts(ReportTest):
         claimed = TWO_LINES_TOLD.replace("total,4,20", "total,4,21")
         out, _, status = self.report(TWO_LINES, claimed + TWO_LINES_ANSWER, TWO_LINES_TOLD)
         self.assertEqual(status, 1)
-        self.assertIn("FAIL  gasday check best: the answer says total,4,21 where the check tells total,4,20", out)
+        self.assertIn("PASS  gasday check best", out)
+        self.assertIn("FAIL  the answer's own claim: the answer says total,4,21 where the check tells total,4,20\n", out)
 
     def test_an_excess_that_the_check_does_not_tell(self):
         self.assertEqual(self.report(POOL_CUT, "cut,61,,,,,,\n" + POOL_CUT_ANSWER, "cut,60,,,,,,\n")[2], 1)
