@@ -55,6 +55,8 @@ def arguments_of(words):
 def add_answer(report, arguments, program):
     question, answer = read_input("question", arguments.question), read_input("answer", arguments.answer)
     report.inputs += [question, answer]
+    for row in of_kinds(answer.rows(), ("fault", "broken", "refused")):
+        raise Fault(f"answer: it holds no schedule and no cut, but tells {','.join(row).rstrip(',')}")
     dropped = len(of_kinds(question.rows(), ANSWER_KINDS + HEAD_KINDS))
     if dropped:
         report.notes.append(f"Rows of the question's file that belong to an answer were left out: {dropped}.")

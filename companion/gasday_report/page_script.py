@@ -136,7 +136,7 @@ class Table {
 
   cell(value, kind) {
     if (!Array.isArray(value)) return node('td', value, kind);
-    const cell = node('td', null, kind), list = node('ul');
+    const cell = node('td', null, kind + ' words'), list = node('ul');
     list.append(...value.map(k => node('li', data.texts[k])));
     if (value.length) cell.append(list);
     return cell;

@@ -63,7 +63,7 @@ class Verdicts(ReportTest):
             self.assertEqual((ended, error[:14]), (2, "gasday-report:"), told)
 
     def test_texts_that_can_not_be_read(self):
-        for question, answer in ((TWO_LINES, "sched,1,80\n"), (b"\xff\xfe", TWO_LINES_ANSWER), (TWO_LINES, "sched,1,x,,,,,\n")):
+        for question, answer in ((TWO_LINES, "sched,1,80\n"), (TWO_LINES, "fault,3,Order,,,,,\n"), (b"\xff\xfe", TWO_LINES_ANSWER), (TWO_LINES, "sched,1,x,,,,,\n")):
             self.assertEqual(self.report(question, answer, TWO_LINES_TOLD)[2], 2)
 
     def test_usage(self):
