@@ -67,7 +67,7 @@ svg g:hover > .line { filter: brightness(0.8); }
 .data th button:focus-visible { outline: 2px solid var(--middle); }
 .data td { border-bottom: 1px solid #edf0f3; padding: 5px 10px 5px 0; vertical-align: top; }
 .data .number { text-align: right; font-variant-numeric: tabular-nums; white-space: nowrap; }
-.data .words { min-width: 320px; }
+.data .words { min-width: 240px; }
 .data .name { white-space: nowrap; }
 .data ul { margin: 0; padding-left: 16px; }
 .data .short { background: #fffaf0; } .data .mark-short { color: #9a5b00; font-weight: 600; }
