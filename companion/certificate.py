@@ -1,0 +1,329 @@
+#!/usr/bin/env python3
+"""certificate.py QUESTION ANSWER
+
+Checks an answer to a question of `gasday` by the rules of docs/CERTIFICATES.md, in exact integers. It shares no code with
+`gasday` and needs nothing but Python's standard library.
+
+QUESTION is a text of `segment`, `point`, `pool`, `question`, `capacity` and `line` rows. ANSWER holds `sched` and `price`
+rows, which are to show the schedule best, or `inside` rows, which are to be a cut; its other rows are not looked at. What is
+printed is that the answer holds, or the first thing that is wrong. The exit status is 0 where it holds, 1 where it doesn't,
+and 2 where a file can't be read as such a text.
+
+No route is walked. The pipeline is a tree: gas passes a segment in one direction only, so its load is what enters less what
+leaves beyond it, and what a dekatherm pays on its way is the difference of two sums of prices from the root.
+"""
+
+import csv
+import io
+import sys
+from collections import namedtuple
+
+CLASSES, TENTHS = 8, 10
+# A price, a cost or a worth: the words of classes 1 to 8, then their words of the spread. Python compares from the front on.
+NOTHING = (0,) * (2 * CLASSES)
+# How many of the eight fields each kind of row uses; the others are empty.
+QUESTION_FIELDS = {"segment": 5, "point": 6, "pool": 4, "question": 4, "capacity": 3, "line": 6}
+ANSWER_FIELDS = {"sched": 3, "price": 5, "inside": 3}
+
+# Kinds are segment, receipt, delivery and pool. Ends are the two places of a segment, or the one place of a point or pool,
+# by number. A pool's capacity means nothing.
+Element = namedtuple("Element", "name kind ends capacity")
+Line = namedtuple("Line", "origin destination class_number floor ceiling")
+
+
+class Unreadable(Exception):
+    """The text is no question, or no answer to one."""
+
+
+class Wrong(Exception):
+    """The first thing that is wrong with an answer: the rule's name, the line or element, and what it is in words."""
+
+    def __init__(self, name, item, words):
+        super().__init__(words)
+        self.name, self.item, self.words = name, item, words
+
+
+def need(holds, words):
+    if not holds:
+        raise Unreadable(words)
+
+
+def number(field, signed=False):
+    digits = field[1:] if signed and field.startswith("-") else field
+    need(digits.isascii() and digits.isdigit() and len(digits) <= 18, f"'{field}' is no number")
+    return int(field)
+
+
+def known(table, name):
+    need(name in table, f"'{name}' is not known")
+    return table[name]
+
+
+def read_rows(text, fields, reader, others=False):
+    """Hands each row of a text to the reader's method for its kind; other kinds of rows are passed over, or refused."""
+    try:
+        for at, row in enumerate(filter(None, csv.reader(io.StringIO(text, newline=""), strict=True)), 1):
+            if row[0] in fields or not others:
+                used = fields.get(row[0], 0)
+                need(used and len(row) == 8 and not any(row[used:]), "it is not of a form that stands here")
+                getattr(reader, "read_" + row[0])(*row[1:used])
+    except csv.Error as error:
+        raise Unreadable(f"no rows of comma-separated fields: {error}") from None
+    except Unreadable as error:
+        raise Unreadable(f"row {at}: {error}") from None
+
+
+def plus(a, sign, b):
+    return tuple(x + sign * y for x, y in zip(a, b))
+
+
+def tenth_of(ceiling, dekatherm):
+    """The tenth of a ceiling in which its dekatherm of this number ends."""
+    return -(-TENTHS * dekatherm // ceiling)
+
+
+def worth_of(line, dekatherm):
+    """1 at the line's class, and in the spread minus the tenth."""
+    worth = list(NOTHING)
+    worth[line.class_number - 1] = 1
+    worth[CLASSES + line.class_number - 1] = -tenth_of(line.ceiling, dekatherm)
+    return tuple(worth)
+
+
+class Question:
+    """The lines, and the pipeline as a tree of places. The root is 0, and each other place stands behind its parent, which
+    its own segment joins it to, upward where gas flows to the parent."""
+
+    def __init__(self, text):
+        self.elements, self.places, self.lines, self.heads = {}, {}, [], 0
+        self.parent, self.segment_at, self.upward = [], [], []
+        read_rows(text, QUESTION_FIELDS, self)
+        need(self.heads == 1 and self.parent, "the text has no segment, or not exactly one question row")
+        self.find_subtrees()
+        for at, line in enumerate(self.lines, 1):
+            need(self.has_route(line), f"line {at} has no route from {line.origin} to {line.destination}")
+
+    def enter(self, name, kind, ends, capacity):
+        need(name and name not in self.elements, f"'{name}' is empty, or given twice")
+        self.elements[name] = Element(name, kind, ends, number(capacity))
+
+    def add_place(self, name, parent, segment, upward):
+        self.places[name] = len(self.parent)
+        self.parent.append(parent)
+        self.segment_at.append(segment)
+        self.upward.append(upward)
+
+    def read_segment(self, name, start, end, capacity):
+        if not self.places:
+            self.add_place(start, None, None, False)
+        upward = end in self.places
+        need((start in self.places) != upward, f"segment {name} doesn't join one new place to the pipeline")
+        self.add_place(start if upward else end, self.places[end if upward else start], name, upward)
+        self.enter(name, "segment", (self.places[start], self.places[end]), capacity)
+
+    def read_point(self, name, kind, place, _operator, capacity):
+        need(kind in ("receipt", "delivery"), f"'{kind}' is neither receipt nor delivery")
+        self.enter(name, kind, (known(self.places, place),), capacity)
+
+    def read_pool(self, name, place, _operator):
+        self.enter(name, "pool", (known(self.places, place),), "0")
+
+    def read_question(self, *_head):
+        self.heads += 1
+
+    def read_capacity(self, name, capacity):
+        need(known(self.elements, name).kind != "pool", f"{name} is a pool and has no capacity")
+        self.elements[name] = self.elements[name]._replace(capacity=number(capacity))
+
+    def read_line(self, origin, destination, *numbers):
+        line = Line(origin, destination, *map(number, numbers))
+        need(known(self.elements, origin).kind in ("receipt", "pool"), f"no line starts at {origin}")
+        need(known(self.elements, destination).kind in ("delivery", "pool"), f"no line ends at {destination}")
+        need(origin != destination and line.floor <= line.ceiling, "the ends are the same, or the floor is above the ceiling")
+        need(1 <= line.class_number <= CLASSES, "the class is not 1 to 8")
+        self.lines.append(line)
+
+    def in_order(self):
+        """The elements: segments, then points, then pools."""
+        return sorted(self.elements.values(), key=lambda e: (e.kind != "segment") + (e.kind == "pool"))
+
+    def place_of(self, end):
+        return self.elements[end].ends[0]
+
+    def sign_at(self, origin):
+        """A line gets the price of the pool that it leaves, and pays all others."""
+        return -1 if self.elements[origin].kind == "pool" else 1
+
+    def find_subtrees(self):
+        """Positions in which the places of each subtree stand side by side; and how far up gas gets from each place, and
+        from how far up it gets there."""
+        count = len(self.parent)
+        self.size, self.first, free = [1] * count, [0] * count, [1] * count
+        self.rise, self.fall = list(range(count)), list(range(count))
+        for place in range(count - 1, 0, -1):
+            self.size[self.parent[place]] += self.size[place]
+        for place in range(1, count):
+            above = self.parent[place]
+            self.first[place] = free[above]
+            free[above] += self.size[place]
+            free[place] = self.first[place] + 1
+            reach = self.rise if self.upward[place] else self.fall
+            reach[place] = reach[above]
+
+    def has_below(self, place, other):
+        return self.first[place] <= self.first[other] < self.first[place] + self.size[place]
+
+    def has_route(self, line):
+        """The route turns at the last place that both ends have above them. The origin's gas gets there, and the
+        destination's comes from there, exactly where these two hold."""
+        start, end = self.place_of(line.origin), self.place_of(line.destination)
+        return self.has_below(self.rise[start], end) and self.has_below(self.fall[end], start)
+
+    def loads(self, quantities):
+        """What each element carries; of a pool what enters it less what leaves it."""
+        surplus, loads = [0] * len(self.parent), dict.fromkeys(self.elements, 0)
+        for line, quantity in zip(self.lines, quantities):
+            loads[line.origin] += self.sign_at(line.origin) * quantity
+            loads[line.destination] += quantity
+            surplus[self.place_of(line.origin)] += quantity
+            surplus[self.place_of(line.destination)] -= quantity
+        for place in range(len(self.parent) - 1, 0, -1):
+            loads[self.segment_at[place]] = surplus[place] if self.upward[place] else -surplus[place]
+            surplus[self.parent[place]] += surplus[place]
+        return loads
+
+    def costs(self, prices):
+        """What a dekatherm of each line pays: at the segments and points that it passes and the pool that it enters, less
+        what it gets back at the pool that it leaves."""
+        from_root, costs = [NOTHING], []
+        for place in range(1, len(self.parent)):
+            price = prices.get(self.segment_at[place], NOTHING)
+            from_root.append(plus(from_root[self.parent[place]], 1 if self.upward[place] else -1, price))
+        for line in self.lines:
+            cost = plus(from_root[self.place_of(line.origin)], -1, from_root[self.place_of(line.destination)])
+            cost = plus(cost, self.sign_at(line.origin), prices.get(line.origin, NOTHING))
+            costs.append(plus(cost, 1, prices.get(line.destination, NOTHING)))
+        return costs
+
+
+class Answer:
+    """A schedule with the prices of elements by name, or the members of a set: each a kind and a name."""
+
+    def __init__(self, text, question):
+        self.question, self.quantities, self.prices, self.levels, self.members = question, [], {}, set(), set()
+        read_rows(text, ANSWER_FIELDS, self, others=True)
+        self.is_cut = bool(self.members)
+        need(not self.is_cut or not (self.quantities or self.prices), "there are both a set and a schedule or prices")
+
+    def read_sched(self, line, quantity):
+        need(number(line) == len(self.quantities) + 1, f"line {line} doesn't follow line {len(self.quantities)}")
+        self.quantities.append(number(quantity))
+
+    def read_price(self, name, level, word, spread):
+        price, at = list(self.prices.get(known(self.question.elements, name).name, NOTHING)), number(level)
+        need(1 <= at <= CLASSES and (name, at) not in self.levels, f"level {level} is not 1 to 8, or given twice")
+        self.levels.add((name, at))
+        price[at - 1], price[CLASSES + at - 1] = number(word, True), number(spread or "0", True)
+        self.prices[name] = tuple(price)
+
+    def read_inside(self, kind, name):
+        groups = {"receipt": "point", "delivery": "point", "pool": "pool"}
+        table = self.question.places if kind == "place" else self.question.elements
+        need(kind == "place" or groups.get(known(table, name).kind) == kind, f"there is no {kind} {name}")
+        known(table, name)
+        self.members.add((kind, name))
+
+
+def check_schedule(question, quantities):
+    """Tells the first fault of a schedule; its loads where it is allowed."""
+    if len(quantities) != len(question.lines):
+        raise Wrong("Shape", None, f"{len(quantities)} quantities for {len(question.lines)} lines")
+    given = list(enumerate(zip(question.lines, quantities), 1))
+    for at, (line, quantity) in given:
+        if quantity < line.floor:
+            raise Wrong("BelowFloor", at, f"line {at} has {quantity}, below its floor of {line.floor}")
+    for at, (line, quantity) in given:
+        if quantity > line.ceiling:
+            raise Wrong("AboveCeiling", at, f"line {at} has {quantity}, above its ceiling of {line.ceiling}")
+    loads = question.loads(quantities)
+    for name, kind, _, capacity in question.in_order():  # pools come last
+        if kind != "pool" and loads[name] > capacity:
+            raise Wrong("OverCapacity", name, f"{name} carries {loads[name]}, above its capacity of {capacity}")
+        if kind == "pool" and loads[name] != 0:
+            raise Wrong("Unbalanced", name, f"what enters pool {name} less what leaves it is {loads[name]}, not 0")
+    return loads
+
+
+def check_best(question, quantities, prices):
+    """Tells the first fault of a schedule with its prices; none where the prices show it best."""
+    loads = check_schedule(question, quantities)
+    for name, kind, _, capacity in question.in_order():
+        price, load = prices.get(name, NOTHING), loads[name]
+        if kind != "pool" and price > NOTHING and load != capacity:
+            raise Wrong("PriceOnSlack", name, f"{name} has a price above zero, but carries {load} and not {capacity}")
+        if kind != "pool" and price < NOTHING and load != 0:
+            raise Wrong("PriceOnSlack", name, f"{name} has a price below zero, but carries {load} and not 0")
+    given = list(enumerate(zip(question.lines, quantities, question.costs(prices)), 1))
+    for at, (line, quantity, cost) in given:
+        if quantity < line.ceiling and worth_of(line, quantity + 1) > cost:
+            raise Wrong("Underfilled", at, f"line {at} is below its ceiling, and its next dekatherm is worth more than it pays")
+    for at, (line, quantity, cost) in given:
+        if quantity > line.floor and worth_of(line, quantity) < cost:
+            raise Wrong("Overfilled", at, f"line {at} is above its floor, and its last dekatherm is worth less than it pays")
+
+
+def crossing_of(question, members):
+    """What counts of a set, each with its quantity: lines that start inside and end outside, by number, with their floors;
+    lines that start outside and end inside, with their ceilings; and elements that lead out, with their capacities."""
+    places = {question.places[name] for kind, name in members if kind == "place"}
+    ends = {name for kind, name in members if kind != "place"}
+    sides = [(at, line, line.origin in ends, line.destination in ends) for at, line in enumerate(question.lines, 1)]
+    must_leave = [(at, line.floor) for at, line, start, end in sides if start and not end]
+    can_return = [(at, line.ceiling) for at, line, start, end in sides if end and not start]
+    can_flow = []
+    for name, kind, where, capacity in question.in_order():
+        start, end = where[0] in places, where[-1] in places
+        start, end = {"segment": (start, end), "receipt": (name in ends, start), "delivery": (start, name in ends),
+                      "pool": (False, False)}[kind]
+        if start and not end:
+            can_flow.append((name, capacity))
+    return must_leave, can_return, can_flow
+
+
+def sums_of(crossing):
+    """What must leave, what can come back, what can flow out, and the excess."""
+    leave, back, flow = (sum(quantity for _, quantity in part) for part in crossing)
+    return leave, back, flow, leave - back - flow
+
+
+def verdict_of(question, answer):
+    """What holds of an answer, in words; or tells the first thing that is wrong."""
+    if not answer.is_cut:
+        check_best(question, answer.quantities, answer.prices)
+        return "the schedule is allowed, and the prices show it best"
+    leave, back, flow, excess = sums_of(crossing_of(question, answer.members))
+    words = f"{leave} must leave the set, {back} can come back and {flow} can flow out"
+    if excess <= 0:
+        raise Wrong("NotCut", None, f"the set is no cut: {words}")
+    return f"the set is a cut, so no schedule is allowed: {words}, {excess} too many must leave"
+
+
+def main():
+    if len(sys.argv) != 3:
+        print(__doc__.strip())
+        return 2
+    try:
+        question_text, answer_text = (open(path, encoding="ascii", newline="").read() for path in sys.argv[1:])
+        question = Question(question_text)
+        print(f"holds: {verdict_of(question, Answer(answer_text, question))}")
+    except (OSError, UnicodeError, Unreadable) as error:
+        print(f"unreadable: {error}")
+        return 2
+    except Wrong as wrong:
+        print(f"wrong: {wrong.words}")
+        return 1
+    return 0
+
+
+if __name__ == "__main__":
+    sys.exit(main())

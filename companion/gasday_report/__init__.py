@@ -1,0 +1,1 @@
+"""The companion of `gasday` that shows its answers to people. Nothing of it is proved."""

@@ -1,0 +1,187 @@
+"""Why a line is short: the elements whose prices its next dekatherm would have to pay, traced through pools to what is
+full."""
+
+from typing import NamedTuple
+
+from certificate import NOTHING, plus, tenth_of, worth_of
+from .words import counted, displaced, full, listed
+
+# A route may have thousands of priced segments: so many of a rank are looked at from each end, and so many are named.
+MOST_LOOKED_AT = 32
+MOST_NAMED = 3
+
+
+def rank_of(amount):
+    """Greater amounts have lesser ranks, by their first word that isn't 0: it decides before all words behind it."""
+    at = next(k for k, word in enumerate(amount) if word)
+    return at if amount[at] > 0 else 2 * len(amount) - at
+
+
+class Payment(NamedTuple):
+    """What a dekatherm of a line pays at one element."""
+
+    element: str
+    amount: tuple
+
+
+class Reason(NamedTuple):
+    elements: list  # by name, those that pay most first
+    words: list  # a sentence of each
+    more: int  # elements of the route with a price that are not named
+    rest: str  # how the next dekatherm's worth compares
+
+
+class Trace(NamedTuple):
+    """What keeps more gas from leaving a pool, or from being brought into it."""
+
+    pools: list  # the pools that were passed, the first being the pool itself
+    full: list  # the full elements at which the ways end, by name
+    open_lines: int  # lines of these pools, on that side, that are below their ceilings
+    filled_lines: int  # and those that are at them
+
+
+class Reasons:
+    """Looks up reasons by line number (from 1) in the prices of a schedule that passed."""
+
+    def __init__(self, question, answer, loads):
+        self.question, self.prices, self.loads = question, answer.prices, loads
+        self.quantities, self.costs = answer.quantities, question.costs(answer.prices)
+        self.ranks = [rank_of(price) if price != NOTHING else None for price in map(self.price, question.segment_at)]
+        self.priced_above = {rank: self.find_priced(rank) for rank in sorted(set(self.ranks) - {None})}
+        self.priced_count = self.count_priced()
+        self.lines_out, self.lines_in = self.lines_of_pools()
+        self.traces = {}
+
+    def price(self, name):
+        return self.prices.get(name, NOTHING)
+
+    def find_priced(self, rank):
+        """For each place the nearest one, itself or above it, whose segment upwards has a price of this rank; else None."""
+        nearest = [None]
+        for place in range(1, len(self.question.parent)):
+            nearest.append(place if self.ranks[place] == rank else nearest[self.question.parent[place]])
+        return nearest
+
+    def count_priced(self):
+        """Priced segments from the root, counted with the sign of their direction: along a route they differ by how many
+        it passes."""
+        counts = [0]
+        for place in range(1, len(self.question.parent)):
+            step = 1 if self.question.upward[place] else -1
+            counts.append(counts[self.question.parent[place]] + (step if self.ranks[place] is not None else 0))
+        return counts
+
+    def lines_of_pools(self):
+        out, into = {}, {}
+        for number, line in enumerate(self.question.lines, 1):
+            for table, end in ((out, line.origin), (into, line.destination)):
+                if self.question.elements[end].kind == "pool":
+                    table.setdefault(end, []).append(number)
+        return out, into
+
+    def segments_of_rank(self, rank, start, end):
+        """The first segments of the route between two places whose price has a rank, from either end."""
+        question, above, found = self.question, self.priced_above[rank], []
+        for foot, other in ((start, end), (end, start)):
+            place = above[foot]
+            for _ in range(MOST_LOOKED_AT):
+                if place is None or question.has_below(place, other):
+                    break
+                found.append(question.segment_at[place])
+                place = above[question.parent[place]]
+        return found
+
+    def priced_segments(self, start, end):
+        """Segments of the route with the greatest prices, and those with prices below zero: no less than are named, if
+        there are so many."""
+        found = []
+        above_zero = [rank for rank in self.priced_above if rank < len(NOTHING)]
+        below_zero = [rank for rank in reversed(self.priced_above) if rank > len(NOTHING)]
+        for ranks in (above_zero, below_zero):
+            side = []
+            for rank in ranks:
+                if len(side) < MOST_NAMED:
+                    side += self.segments_of_rank(rank, start, end)
+            found += side
+        return found
+
+    def payments(self, number):
+        """The most that the line pays and gets back, in lists that the greatest begin; and how many elements of its route
+        have a price."""
+        line, question = self.question.lines[number - 1], self.question
+        start, end = question.place_of(line.origin), question.place_of(line.destination)
+        amounts = [Payment(name, self.price(name)) for name in (*self.priced_segments(start, end), line.destination)]
+        amounts.append(Payment(line.origin, plus(NOTHING, question.sign_at(line.origin), self.price(line.origin))))
+        paid = sorted((p for p in amounts if p.amount > NOTHING), key=lambda payment: payment.amount, reverse=True)
+        back = sorted((p for p in amounts if p.amount < NOTHING), key=lambda payment: payment.amount)
+        count = self.priced_count[start] - self.priced_count[end]
+        return paid, back, count + sum(self.price(name) != NOTHING for name in (line.origin, line.destination))
+
+    def trace(self, pool, leaving):
+        """Follows the lines that could take more out of a pool (or bring more into it) to the full elements on their ways,
+        through other pools with a price of the same sign."""
+        if (pool, leaving) in self.traces:
+            return self.traces[pool, leaving]
+        pools, ends, open_lines, filled_lines = [pool], {}, 0, 0
+        table = self.lines_out if leaving else self.lines_in
+        for at in pools:
+            for number in table.get(at, ()):
+                line = self.question.lines[number - 1]
+                if self.quantities[number - 1] >= line.ceiling:
+                    filled_lines += 1
+                    continue
+                open_lines += 1
+                self.follow(line, number, at, pools, ends)
+        trace = Trace(pools, list(ends), open_lines, filled_lines)
+        self.traces[pool, leaving] = trace
+        return trace
+
+    def follow(self, line, number, pool, pools, ends):
+        for payment in self.payments(number)[0]:
+            if self.question.elements[payment.element].kind != "pool":
+                ends[payment.element] = None
+            elif payment.element != pool and payment.element in (line.origin, line.destination):
+                if payment.element not in pools:
+                    pools.append(payment.element)
+
+    def of_element(self, name):
+        return full(name, self.loads[name], self.question.elements[name].capacity)
+
+    def pool_words(self, pool, leaving):
+        """Why no more goes through a pool, in words."""
+        trace = self.trace(pool, leaving)
+        ways = "leave it" if leaving else "be brought into it"
+        through = f" (by way of {listed(trace.pools[1:4])})" if len(trace.pools) > 1 else ""
+        if not trace.full:
+            side = "out of" if leaving else "into"
+            of = listed([pool, *trace.pools[1:4]])
+            if not trace.filled_lines:
+                return f"no line leads {side} {of}"
+            return f"{counted(trace.filled_lines, 'line')} {side} {of}, all at the ceiling, so no more can {ways}{through}"
+        if len(trace.full) == 1:
+            return f"more could {ways}{through} only where {self.of_element(trace.full[0])}"
+        named = [f"{name} ({self.loads[name]} of {self.question.elements[name].capacity})" for name in trace.full[:MOST_NAMED]]
+        more = [f"{len(trace.full) - MOST_NAMED} more"] if len(trace.full) > MOST_NAMED else []
+        return f"more could {ways}{through} only past what is full: {listed(named + more)}"
+
+    def words_of(self, payment, line):
+        element = self.question.elements[payment.element]
+        if element.kind != "pool":
+            return f"{self.of_element(element.name)}; {displaced(payment.amount)}"
+        leaving = element.name == line.destination
+        rule = "as much must leave as enters" if leaving else "as much must enter as leaves"
+        return f"at pool {element.name} {rule}, and {self.pool_words(element.name, leaving)}; {displaced(payment.amount)}"
+
+    def reason(self, number):
+        """Why this line is below its ceiling; None where it isn't."""
+        line, quantity = self.question.lines[number - 1], self.quantities[number - 1]
+        if quantity >= line.ceiling:
+            return None
+        paid, back, count = self.payments(number)
+        named = paid[:MOST_NAMED]
+        words = [self.words_of(payment, line) for payment in named]
+        words += [f"in return, at {element}, {displaced(amount)}" for element, amount in back[:MOST_NAMED]]
+        is_less = worth_of(line, quantity + 1) < self.costs[number - 1]
+        worth = "is worth less than all that" if is_less else "is worth just that, so nothing would be gained"
+        rest = f"its next dekatherm, of class {line.class_number} and tenth {tenth_of(line.ceiling, quantity + 1)}, {worth}"
+        return Reason([payment.element for payment in named], words, count - len(words), rest)

@@ -1,0 +1,109 @@
+"""The verdicts that stand before each report: that of `gasday check ..`, and that of certificate.py."""
+
+import os
+import shutil
+import subprocess
+from pathlib import Path
+from typing import NamedTuple
+
+import certificate
+from .texts import ANSWER_KINDS, Fault, of_kinds, question_text, rows_in, written
+
+BUILT = Path(__file__).resolve().parents[2] / "crates" / "gasday" / "out" / "gasday"
+SECONDS = 600
+
+BROKEN = {
+    "Shape": "there is not one quantity for each line",
+    "BelowFloor": "line {} has less than its floor",
+    "AboveCeiling": "line {} has more than its ceiling",
+    "OverCapacity": "{} carries more than its capacity",
+    "Unbalanced": "what enters pool {} is not what leaves it",
+    "PriceTooLarge": "a word of the price of {} is larger than the program's limit",
+    "PriceOnSlack": "{} has a price that its load doesn't allow",
+    "Underfilled": "line {} is below its ceiling, and its next dekatherm is worth more than it pays",
+    "Overfilled": "line {} is above its floor, and its last dekatherm is worth less than it pays",
+    "NotCut": "no more must leave the set than can, so it is no cut",
+}
+
+
+class Verdict(NamedTuple):
+    by: str
+    passed: bool
+    words: str
+
+
+def program_at(path):
+    """The program to run: the one that is named, else the built one, else the one on the PATH."""
+    found = path or (str(BUILT) if os.access(BUILT, os.X_OK) else "gasday")
+    found = shutil.which(found)
+    if not found:
+        raise Fault(f"there is no program {path or 'gasday'}; --gasday names one")
+    return found
+
+
+def call(program, words, text):
+    """What the program prints, and its exit status."""
+    try:
+        done = subprocess.run([program, *words], input=text, capture_output=True, timeout=SECONDS)
+    except OSError as error:
+        raise Fault(f"{program} can't be run: {error.strerror}") from None
+    except subprocess.TimeoutExpired:
+        raise Fault(f"{program} was not ready after {SECONDS} seconds") from None
+    return done.stdout, done.returncode
+
+
+def is_cut(rows):
+    return bool(of_kinds(rows, ("inside", "cut")))
+
+
+def told_in_words(rows):
+    """What a check told, in words."""
+    kind, name, item = rows[0][:3]
+    if kind == "broken":
+        return f"broken, {name}: {BROKEN.get(name, 'the rule of this name is broken at {}').format(item)}"
+    if kind == "cut":
+        return f"a cut of excess {name}: no schedule is allowed"
+    if kind == "best":
+        return "the schedule is allowed and best"
+    return "told: " + ",".join(rows[0]).rstrip(",")
+
+
+def claim_verdict(answer, told):
+    """A FAIL where an answer claims what the check doesn't tell; an answer may claim nothing."""
+    for row in of_kinds(answer.rows(), ("best", "total", "cut")):
+        if row not in told:
+            fields = 2 if row[0] == "total" else 1
+            same = [",".join(other).rstrip(",") for other in told if other[:fields] == row[:fields]]
+            words = f"the answer says {','.join(row).rstrip(',')} where the check tells {same[0] if same else 'no such row'}"
+            return [Verdict("the answer's own claim", False, words)]
+    return []
+
+
+def program_verdicts(program, question, answer):
+    """What `gasday check ..` says of the question with the answer's own rows behind it; after a PASS also whether the
+    answer claims as much."""
+    rows = answer.rows()
+    word = "cut" if is_cut(rows) else "best"
+    text = question_text(question) + written(of_kinds(rows, ANSWER_KINDS))
+    out, status = call(program, ["check", word], text)
+    told = rows_in(out, f"gasday check {word}")
+    by = f"gasday check {word}"
+    if told and told[0][0] == "fault":
+        raise Fault(f"{by}: the text has a fault: {','.join(told[0]).rstrip(',')}")
+    if status not in (0, 1) or not told or (status == 0) != (told[0][0] == word):
+        raise Fault(f"{by}: not an answer of gasday, with exit status {status}")
+    return [Verdict(by, status == 0, told_in_words(told)), *(claim_verdict(answer, told) if status == 0 else [])]
+
+
+def own_verdict(question, answer):
+    """What certificate.py says; with the question and the answer that it read."""
+    by = "certificate.py"
+    try:
+        asked = certificate.Question(question_text(question).decode("utf-8"))
+        given = certificate.Answer(answer.data.decode("utf-8"), asked)
+        given.is_cut = is_cut(answer.rows())
+        return Verdict(by, True, certificate.verdict_of(asked, given)), asked, given
+    except certificate.Unreadable as error:
+        raise Fault(f"{by}: {error}") from None
+    except certificate.Wrong as wrong:
+        return Verdict(by, False, wrong.words), asked, given

@@ -1,0 +1,62 @@
+"""Prices and quantities in words."""
+
+from certificate import CLASSES, TENTHS
+
+CYCLES = {1: "Timely", 2: "Evening", 3: "Intraday 1", 4: "Intraday 2", 5: "Intraday 3"}
+
+PRICE_NOTES = (
+    "Prices are not unique: other prices may show the same schedule best. So each reason is one sufficient reason, and"
+    " there may be others.",
+    "A price is a shadow price and no money: it counts, class by class, the dekatherms that one more dekatherm there"
+    " would displace.",
+    "Within a class the tenths decide: each line's ceiling is cut into ten equal parts, and a dekatherm in an earlier"
+    " tenth goes before one in a later tenth of any other line of the class.",
+)
+CUT_NOTE = (
+    "A cut (Hoffman's) proves that no schedule at all keeps the floors, ceilings, capacities and pool balances of this"
+    " question. It is not a reduction of anybody's gas, and it says nothing about whose floor should give way."
+)
+
+
+def listed(words, joint="and"):
+    """Words in a row: a, b and c."""
+    words = list(words)
+    return f" {joint} ".join([", ".join(words[:-1]), words[-1]]) if len(words) > 1 else "".join(words)
+
+
+def counted(count, one, many=None):
+    return f"{count} {one if count == 1 else many or one + 's'}"
+
+
+def gas_of(class_number, word, spread):
+    """Gas of a class by its word of a price, with its tenth where the spread's word is one dekatherm's."""
+    tenth = f" of tenth {-spread}" if word == 1 and -TENTHS <= spread <= -1 else ""
+    amount = f"{word} dekatherms of " if word > 1 else ""
+    return f"{amount}class {class_number} gas{tenth}"
+
+
+def displaced(amount):
+    """What a dekatherm that pays so much would displace, and what it would let in."""
+    words, spreads = amount[:CLASSES], amount[CLASSES:]
+    out = [gas_of(c, word, spreads[c - 1]) for c, word in enumerate(words, 1) if word > 0]
+    back = [gas_of(c, -word, -spreads[c - 1]) for c, word in enumerate(words, 1) if word < 0]
+    if not out and not back:
+        first = next(c for c, word in enumerate(spreads, 1) if word)
+        return f"class {first} gas would be spread {'less' if spreads[first - 1] > 0 else 'more'} evenly"
+    parts = [f"{listed(out)} would be displaced"] if out else []
+    parts += [f"{listed(back)} would be let in"] if back else []
+    return " and ".join(parts)
+
+
+def full(name, load, capacity):
+    return f"{name} is full, {load} of {capacity}"
+
+
+def price_in_words(price):
+    """A price as it stands, class by class."""
+    parts = []
+    for c in range(1, CLASSES + 1):
+        word, spread = price[c - 1], price[CLASSES + c - 1]
+        if word or spread:
+            parts.append(f"class {c}: {word}" + (f" and {spread} in the spread" if spread else ""))
+    return "; ".join(parts)

@@ -1,0 +1,99 @@
+"""What the tests share: texts, a small fake `gasday`, and runs of the command."""
+
+import contextlib
+import io
+import os
+import re
+import sys
+import tempfile
+import unittest
+from pathlib import Path
+
+TOP = Path(__file__).resolve().parents[2]
+sys.path.insert(0, str(TOP / "companion"))
+
+from gasday_report.command import main  # noqa: E402 (the path comes first)
+
+ANSWER_KINDS = ("sched", "price", "inside")
+
+# The question of docs/CERTIFICATES.md: S1 carries 100, line 1 of class 1 asks for 80 and line 2 of class 4 for 50.
+TWO_LINES = """segment,S1,A,B,100,,,
+point,R1,receipt,A,OPR,1000,,
+point,D1,delivery,B,OPD,1000,,
+question,DEMO,1,1,,,,
+line,R1,D1,1,0,80,,
+line,R1,D1,4,0,50,,
+"""
+TWO_LINES_ANSWER = "sched,1,80,,,,,\nsched,2,20,,,,,\nprice,S1,4,1,-4,,,\n"
+# The totals stand in examples/README.md.
+TWO_LINES_TOLD = "best,,,,,,,\ntotal,1,80,,,,,\ntotal,2,0,,,,,\ntotal,3,0,,,,,\ntotal,4,20,,,,,\n"
+
+# The question and the cut of docs/CERTIFICATES.md: 100 must leave the set into pool P1, and at most 40 come back.
+POOL_CUT = """segment,S1,A,B,1000,,,
+point,R1,receipt,A,OPR,1000,,
+point,D1,delivery,B,OPD,1000,,
+pool,P1,B,OPP,,,,
+question,DEMO,1,1,,,,
+line,R1,P1,1,100,100,,
+line,P1,D1,1,40,40,,
+"""
+POOL_CUT_ANSWER = "inside,place,A,,,,,\ninside,place,B,,,,,\ninside,point,R1,,,,,\ninside,point,D1,,,,,\n"
+
+# Prices worked out by hand for examples/winter-day.csv. Line 6, of class 4, stands in tenth 8 of its ceiling (4751 and 4752
+# of 6000), line 8, of class 5, too (6751 and 6752 of 9000). A dekatherm more over TRUNK-1 would be one more of both, since
+# line 6 brings into MERGE-POOL what line 8 takes out: so TRUNK-1 costs both, and the pool what line 6's dekatherm is worth.
+WINTER_PRICES = "price,TRUNK-1,4,1,-8,,,\nprice,TRUNK-1,5,1,-8,,,\nprice,MERGE-POOL,4,1,-8,,,\n"
+
+
+def split(text):
+    """The rows of a text that are a question's, and those that are an answer's."""
+    rows = [row for row in re.split("\r\n|\r|\n", text) if row]
+    parts = [[row for row in rows if (row.split(",")[0] in ANSWER_KINDS) == is_answer] for is_answer in (False, True)]
+    return ["".join(row + "\n" for row in part) for part in parts]
+
+
+def example(name):
+    return (TOP / "examples" / name).read_text()
+
+
+def winter_day():
+    question, schedule = split(example("winter-day.csv"))
+    return question, schedule + WINTER_PRICES
+
+
+class ReportTest(unittest.TestCase):
+    """Runs the command on texts in a folder, with a fake program that prints what the test says."""
+
+    def setUp(self):
+        self.folder = tempfile.TemporaryDirectory()
+        self.addCleanup(self.folder.cleanup)
+
+    def path(self, name, text):
+        path = Path(self.folder.name) / name
+        path.write_bytes(text if isinstance(text, bytes) else text.encode())
+        return str(path)
+
+    def program(self, told, status=0):
+        """A program that tells so whatever it is asked, and keeps its words and its text beside itself."""
+        here = self.folder.name
+        self.path("told", told)
+        path = self.path("gasday", f'#!/bin/sh\necho "$@" >> {here}/words\ncat > {here}/text\ncat {here}/told\nexit {status}\n')
+        os.chmod(path, 0o755)
+        return path
+
+    def kept(self, name):
+        return (Path(self.folder.name) / name).read_text()
+
+    def run_command(self, *words):
+        """Standard output, standard error and the exit status."""
+        out, error = io.StringIO(), io.StringIO()
+        with contextlib.redirect_stdout(out), contextlib.redirect_stderr(error):
+            try:
+                status = main(list(words))
+            except SystemExit as ended:
+                status = ended.code
+        return out.getvalue(), error.getvalue(), status
+
+    def report(self, question, answer, told, *words, status=0):
+        paths = self.path("question.csv", question), self.path("answer.csv", answer)
+        return self.run_command(*paths, "--gasday", self.program(told, status), *words)

@@ -1,0 +1,157 @@
+"""The HTML page: that it asks for nothing from outside, escapes what it shows, and says what a picture leaves out; and both
+layouts of the picture."""
+
+import json
+import re
+import unittest
+from html.parser import HTMLParser
+from unittest import mock
+
+from helpers import POOL_CUT, POOL_CUT_ANSWER, TWO_LINES, TWO_LINES_ANSWER, TWO_LINES_TOLD, ReportTest, winter_day
+
+from gasday_report import layout
+from gasday_report.layout import Edge, Node, plain, read_plain
+from gasday_report.picture import MOST_PLACES, PART_PLACES
+
+WINTER_TOLD = "best,,,,,,,\n"
+REQUESTS = {"src", "href", "srcset", "action", "data", "background", "poster", "xlink:href"}
+
+
+class Page(HTMLParser):
+    """The tags of a page with their attributes, and the text outside of scripts and styles."""
+
+    def __init__(self, text):
+        super().__init__()
+        self.tags, self.words, self.inside = [], [], []
+        self.feed(text)
+
+    def handle_starttag(self, tag, attrs):
+        self.tags.append((tag, dict(attrs)))
+        if tag in ("script", "style"):
+            self.inside.append(tag)
+
+    def handle_endtag(self, tag):
+        if self.inside and self.inside[-1] == tag:
+            self.inside.pop()
+
+    def handle_data(self, data):
+        if not self.inside:
+            self.words.append(data)
+
+
+def embedded(text):
+    return json.loads(re.search(r'id="data">(.*?)</script>', text).group(1))
+
+
+class Pages(ReportTest):
+    def page(self, question, answer, told, status=0):
+        return self.report(question, answer, told, "--format", "html", status=status)[0]
+
+    def test_nothing_from_outside(self):
+        for words in ((*winter_day(), WINTER_TOLD), (POOL_CUT, POOL_CUT_ANSWER, "cut,60,,,,,,\n")):
+            text = self.page(*words)
+            for tag, attributes in Page(text).tags:
+                self.assertFalse(REQUESTS & set(attributes), tag)
+                self.assertNotIn(tag, ("link", "img", "iframe", "object", "embed", "form", "base"))
+            self.assertIsNone(re.search(r"https?:|url\(|@import|fetch\(|XMLHttpRequest|import\(", text))
+            self.assertIn("default-src 'none'", text)
+
+    def test_names_are_escaped(self):
+        """No valid name has such letters, but a fake program lets one pass."""
+        spoiled = "<script>x&\"'</script>"
+        field = '"' + spoiled.replace('"', '""') + '"'
+        question = TWO_LINES
+        for name in ("OPR", "R1", "DEMO"):
+            question = question.replace(f",{name},", f",{field},")
+        question = question.replace(",A,", f",{field},")
+        text = self.page(question, TWO_LINES_ANSWER, TWO_LINES_TOLD)
+        self.assertEqual(text.count("<script"), 2)
+        self.assertNotIn("x&\"", text)
+        page = Page(text)
+        self.assertIn(spoiled, "".join(page.words))
+        self.assertEqual(embedded(text)["tables"][0]["rows"][0][1], spoiled)
+
+    def test_verdicts_and_hashes_stand_at_the_top(self):
+        words = "".join(Page(self.page(*winter_day(), WINTER_TOLD)).words)
+        for first, second in (("PASS", "The pipeline"), ("SHA-256", "The pipeline"), ("certificate.py", "The pipeline")):
+            self.assertLess(words.index(first), words.index(second))
+
+    def test_lines_of_the_table(self):
+        data = embedded(self.page(TWO_LINES, TWO_LINES_ANSWER, TWO_LINES_TOLD))
+        lines = data["tables"][0]
+        self.assertEqual(lines["rows"][0], [1, "R1", "D1", 1, 0, 80, 80, 0, []])
+        self.assertEqual(lines["rows"][1][:8], [2, "R1", "D1", 4, 0, 50, 20, 30])
+        self.assertIn("S1 is full, 100 of 100", data["texts"][lines["rows"][1][8][0]])
+
+    def test_bumped_lines_are_marked(self):
+        data = embedded(self.page(TWO_LINES, TWO_LINES_ANSWER + "bumped,2,7,,,,,\n", TWO_LINES_TOLD))
+        self.assertEqual([row[8] for row in data["tables"][0]["rows"]], [0, 7])
+        self.assertEqual([mark["name"] for mark in data["tables"][0]["marks"]], ["short", "bumped"])
+
+    def test_the_picture(self):
+        text = self.page(*winter_day(), WINTER_TOLD)
+        groups = {attributes["data-name"]: attributes["class"] for tag, attributes in Page(text).tags
+                  if "data-name" in attributes and not attributes["class"].startswith("label")}
+        # TRUNK-2 carries 78584 of 80000, MILL-LATERAL 9416 of 20000, and CITY-UTILITY all of its 50000.
+        self.assertTrue(groups["TRUNK-1"].endswith("full") and groups["CITY-UTILITY"].endswith("full"))
+        self.assertTrue(groups["TRUNK-2"].endswith("high") and groups["MILL-LATERAL"].endswith("low"))
+        self.assertIn("MERGE-POOL", groups)
+        self.assertNotIn("too large for a picture", text)
+
+    def test_the_cut_is_marked(self):
+        text = self.page(POOL_CUT, POOL_CUT_ANSWER, "cut,60,,,,,,\n")
+        inside = sorted(attributes.get("data-name", "place") for tag, attributes in Page(text).tags
+                        if tag == "g" and "inside" in attributes["class"])
+        self.assertEqual(inside, ["D1", "R1", "place", "place"])
+
+    def test_a_fail_shows_no_table(self):
+        text = self.page(TWO_LINES, TWO_LINES_ANSWER, "broken,Shape,,,,,,\n", status=1)
+        self.assertIn("FAIL", text)
+        self.assertNotIn("<script", text)
+
+    def test_a_large_pipeline_is_drawn_in_part(self):
+        """A chain of 100 places whose gas enters at place 60: the part must hold where it flows."""
+        rows = [f"segment,S{k},L{k},L{k + 1},9,,,\n" for k in range(99)]
+        rows += ["point,R1,receipt,L60,OP,9,,\n", "point,D1,delivery,L99,OP,9,,\n", "question,CHAIN,1,1,,,,\n"]
+        rows.append("line,R1,D1,1,0,5,,\n")
+        text = self.page("".join(rows), "sched,1,5,,,,,\n", "best,,,,,,,\ntotal,1,5,,,,,\n")
+        self.assertIn(f"{PART_PLACES} of 100 places with 1 of 2 points and pools", text)
+        places = [word for word in re.findall(r"<title>place (L\d+)</title>", text)]
+        self.assertEqual(len(places), PART_PLACES)
+        self.assertIn("L60", places)
+        self.assertGreater(100, MOST_PLACES)
+        self.assertEqual(len(embedded(text)["tables"][1]["rows"]), 101)
+
+
+class Layouts(unittest.TestCase):
+    NODES = [Node("a", 60, 26), Node("b", 60, 26), Node("c", 60, 26), Node("d", 60, 26), Node("pool", 60, 32, "b")]
+    EDGES = [Edge("a", "b", 5), Edge("b", "c", 5), Edge("b", "d", 5), Edge("b", "pool", 0)]
+
+    def test_plain_layers_follow_the_gas(self):
+        places = plain(self.NODES, self.EDGES).nodes
+        x = {key: place[0] for key, place in places.items()}
+        self.assertTrue(x["a"] < x["b"] < x["c"] == x["d"] and x["pool"] == x["b"])
+        for one in places.values():
+            for other in places.values():
+                self.assertTrue(one == other or abs(one[0] - other[0]) >= 60 or abs(one[1] - other[1]) >= 32)
+
+    def test_plain_stands_in_where_there_is_no_dot(self):
+        with mock.patch("shutil.which", return_value=None):
+            made = layout.laid_out(self.NODES, self.EDGES)
+        self.assertFalse(made.by_dot)
+        self.assertEqual(set(made.nodes), {"a", "b", "c", "d", "pool"})
+
+    def test_what_dot_prints(self):
+        """Inches from below become 72 to an inch from above."""
+        text = ("graph 1 3 2\nnode n0 0.5 1.5 0.8 0.4 \"\" solid box black lightgrey\n"
+                "node n1 2.5 0.5 0.8 0.4 \"\" solid box black lightgrey\n"
+                "edge n0 n1 4 0.9 1.5 1 1 2 1 2.1 0.5 \"xx\\nx\" 1.5 1.25 solid black\nstop\n")
+        made = read_plain(text, self.NODES[:2])
+        self.assertEqual((made.width, made.height), (216, 144))
+        self.assertEqual(made.nodes, {"a": (36, 36), "b": (180, 108)})
+        points, label = made.curves["a", "b"]
+        self.assertEqual((points[1], label), ((72, 72), (108, 54)))
+
+
+if __name__ == "__main__":
+    unittest.main()
