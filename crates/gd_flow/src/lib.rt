@@ -4,6 +4,7 @@
 mod cut;
 mod faults;
 mod feasible;
+mod first;
 mod mending;
 mod search;
 

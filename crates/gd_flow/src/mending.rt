@@ -1,4 +1,4 @@
-//! The repair of a network's first flow.
+//! The repair of a flow that is out of bounds.
 
 ghost use Rattle.std.specs.Prelude.{◌<◌, length, IfOk, OnOk, MatchOption};
 ghost use Rattle.gd_certificate.specs.Cutting.{IsShaped, Cuts};
@@ -11,6 +11,7 @@ ghost use Rattle.gd_flow.specs.Ways.{IsWay};
 use crate::Feasible;
 use crate::cut::cut_of;
 use crate::faults::fault_of;
+use crate::first::first_flow;
 use crate::search::Search;
 use gd_certificate::Cut;
 use gd_network::{Flow, Network, reached_cut};
@@ -106,13 +107,13 @@ fn mend_all(
     Ok(None)
 }
 
-/// A flow that balances within the bounds of all arcs, found from the network's first flow, or a cut that shows that
-/// there is none (Hoffman). The only error is want of memory.
+/// A flow that balances within the bounds of all arcs, found from the network's first flow or from a schedule that is
+/// proposed, or a cut that shows that there is none (Hoffman). The only error is want of memory.
 pub fn repair<'q>(alloc: Global, network: Network<'q>) -> Result<Repaired<'q>, AllocError>
     ensures { IfOk result (Repairs network.entry.question network.entry.arcs) }
 {
     network.known();
-    let mut flow = network.first().try_clone(alloc)?.into_amounts();
+    let mut flow = first_flow(alloc, &network)?.into_amounts();
     match mend_all(alloc, &network, &mut flow)? {
         Some(cut) => Ok(Repaired::Impossible(cut)),
         None => Ok(Repaired::Feasible(Feasible::of(network, Flow::of(flow)))),

@@ -9,10 +9,10 @@ use Rattle.gd_walks.specs.declared.Step.{Step}
 use Rattle.gd_walks.specs.Steps.{tail_of, head_of, room, Follows, AreSteps, Once, HasRooms}
 use Rattle.gd_labels.specs.Links.{node_at, Trail, gain_of, EndsOnce}
 use Rattle.gd_labels.specs.Found.{IsGaining}
-use Rattle.gd_mincost.specs.Gains.{gained}
+use Rattle.gd_mincost.specs.Gains.{gained, gain_along}
 use Rattle.gd_mincost.specs.Residual.{AreLinked, step_at}
 use Rattle.gd_mincost.specs.Closed.{steps_along}
-use Rattle.gd_mincost.proofs.Value.{walk_gain, gain_push}
+use Rattle.gd_mincost.proofs.Value.{gain_push}
 
 -- the last link's step stands last
 along_more : (steps : List Step) (i : ℕ) (walk : List ℕ) → steps_along steps (i ∷ walk) ≡ steps_along steps walk ++ step_at steps i ∷ []
@@ -46,13 +46,13 @@ module _ {V : Type 0} (s : Scale V) (n : Net) (flow : List ℤ) (gains : List V)
       subst (λ w. Follows n a w b) (sym (along_more steps i walk))
       (follows_push n (steps_along steps walk) (step_at steps i) a (node_at from i) b (follows a (node_at from i) walk t.2) link.arc (sym link.begins) (sym link.leads ∙ t.1))
 
-  pub walk_gains : (l : IsLawful s) (a b : ℕ) (walk : List ℕ) → Trail from to a walk b → gain_of s gain walk ≡ walk_gain s l gains (steps_along steps walk)
+  pub walk_gains : (l : IsLawful s) (a b : ℕ) (walk : List ℕ) → Trail from to a walk b → gain_of s gain walk ≡ gain_along s gains (steps_along steps walk)
   walk_gains l a b [] t = refl
   walk_gains l a b (i ∷ walk) t =
       ap (λ x. s.plus x (gain_of s gain walk)) (linked.each i t.0).gain_is
       ∙ ap (s.plus (gained s gains (step_at steps i))) (walk_gains l a (node_at from i) walk t.2)
       ∙ sym (gain_push s l gains (steps_along steps walk) (step_at steps i))
-      ∙ ap (walk_gain s l gains) (sym (along_more steps i walk))
+      ∙ ap (gain_along s gains) (sym (along_more steps i walk))
 
   module _ (a b : ℕ) (walk : List ℕ) (t : Trail from to a walk b) where
     place : (k : ℕ) → k < length (steps_along steps walk) → length walk - 1 - k < length walk
@@ -126,7 +126,7 @@ along_follows s n flow gains from to gain steps linked walk g along e = subst (�
 
 -- the walk of steps gains as that of links does
 pub along_gains : {V : Type 0} (s : Scale V) (l : IsLawful s) (n : Net) (flow : List ℤ) (gains : List V) (from to : List ℕ) (gain : List V) (steps : List Step) → AreLinked s n flow gains from to gain steps → (walk : List ℕ) → IsGaining s from to gain walk → (along : List Step)
-    → along ≡ steps_along steps walk → IsAbove s (walk_gain s l gains along) s.none
+    → along ≡ steps_along steps walk → IsAbove s (gain_along s gains along) s.none
 along_gains s l n flow gains from to gain steps linked walk g along e =
-    subst (λ w. IsAbove s (walk_gain s l gains w) s.none) (sym e)
+    subst (λ w. IsAbove s (gain_along s gains w) s.none) (sym e)
     (subst (λ x. IsAbove s x s.none) (walk_gains s n flow gains from to gain steps linked l g.node g.node walk g.closed) g.gains)

@@ -1,7 +1,7 @@
 -- The links of steps with room.
 use Rattle.std.proofs.Common.{◌≡◌, ℕ, ◌+◌, ◌^◌, ◌<◌, List, [], ◌∷◌, ◌++◌, length, get_or, cond, Bool, true, false, IsTrue, to_z, of_z, refl, sym, ap, ◌∙◌, subst, arith, below_more, inl, inr}
 use Rattle.std.specs.Prelude.{ℤ, pos, ◌-ℤ◌, ◌≤ℤ◌, ◌<ℤ◌, FitsSigned}
-use lib.Signed.{lt_z}
+use lib.Signed.{le_z}
 use Rattle.std.proofs.lemmas.Bool.{cases_lt}
 use Rattle.std.proofs.lemmas.List.{length_push, get_or_append_left, get_or_push}
 use Rattle.std.specs.Int.{w64}
@@ -98,7 +98,7 @@ module _ {V : Type 0} (s : Scale V) (within : ℤ → V → Bool) (b : IsBounded
       by_way true = (sound.to step.arc h, sound.from step.arc h)
       by_way false = (sound.from step.arc h, sound.to step.arc h)
 
-  step_small : (n : Net) (gains : List V) → AreGains s within (length n) gains → (step : Step) → step.arc < length n → IsTrue (within (pos 16) (gained s gains step))
+  pub step_small : (n : Net) (gains : List V) → AreGains s within (length n) gains → (step : Step) → step.arc < length n → IsTrue (within (pos 16) (gained s gains step))
   step_small n gains small step h = by_way step.back
     where
       by_way : (w : Bool) → IsTrue (within (pos 16) (cond w (s.minus (gain_at s gains step.arc)) (gain_at s gains step.arc)))
@@ -139,12 +139,8 @@ module _ {V : Type 0} (s : Scale V) (n : Net) (flow : List ℤ) (gains : List V)
     has_room = some;
   }
 
-pub some_room : (z least : ℤ) → FitsSigned w64 z → FitsSigned w64 least → pos 0 <ℤ least → lt_z (to_z w64 (of_z w64 z)) (to_z w64 (of_z w64 least)) ≡ false → pos 0 <ℤ z
-some_room z least fits small some h = grind (arith, ints)
-
--- room for one dekatherm is enough where the least room is one
-pub some_least : (z least : ℤ) → least ≡ pos 1 → pos 0 <ℤ z → to_z w64 (of_z w64 least) ≤ℤ z
-some_least z least e h = omega (arith, ints)
+pub some_room : (z : ℤ) → FitsSigned w64 z → le_z (to_z w64 (of_z w64 z)) (pos 0) ≡ false → pos 0 <ℤ z
+some_room z fits h = grind (arith, ints)
 
 -- what code reads and takes off
 pub difference : (u f : ℤ) → pos 0 ≤ℤ f → f ≤ℤ u → u ≤ℤ pos 1000000000 → to_z w64 (of_z w64 (to_z w64 (of_z w64 u) -ℤ to_z w64 (of_z w64 f))) ≡ u -ℤ f

@@ -19,20 +19,15 @@ use Rattle.gd_network.specs.Flow.{flow_at, IsWithin}
 use Rattle.gd_network.specs.Begun.{AreSound}
 use Rattle.gd_walks.specs.declared.Step.{Step}
 use Rattle.gd_walks.specs.Steps.{moved, pushed, AreSteps}
-use Rattle.gd_mincost.specs.Gains.{AreGains, gain_at, gained, value}
+use Rattle.gd_mincost.specs.Gains.{AreGains, gain_at, gained, gain_along, value}
 
 module _ {V : Type 0} (s : Scale V) (l : IsLawful s) where
-  -- what a walk's steps gain together
-  abbrev pub walk_gain : List V → List Step → V
-  walk_gain gains [] = s.none
-  walk_gain gains (step ∷ walk) = s.plus (gained s gains step) (walk_gain gains walk)
-
-  pub gain_push : (gains : List V) (walk : List Step) (step : Step) → walk_gain gains (walk ++ step ∷ []) ≡ s.plus (gained s gains step) (walk_gain gains walk)
+  pub gain_push : (gains : List V) (walk : List Step) (step : Step) → gain_along s gains (walk ++ step ∷ []) ≡ s.plus (gained s gains step) (gain_along s gains walk)
   gain_push gains [] step = refl
   gain_push gains (t ∷ walk) step =
       let x : V = gained s gains step in
       let y : V = gained s gains t in
-      let w : V = walk_gain gains walk in
+      let w : V = gain_along s gains walk in
       ap (s.plus y) (gain_push gains walk step) ∙ sym (l.associates y x w) ∙ ap (λ v. s.plus v w) (l.commutes y x) ∙ l.associates x y w
 
   -- one summand is x more
@@ -79,11 +74,11 @@ module _ {V : Type 0} (s : Scale V) (l : IsLawful s) where
 
   -- A push adds the amount times what the walk gains.
   pub walk_worth : (gains : List V) (n : Net) (walk : List Step) (flow : List ℤ) (d : ℕ) → length flow ≡ length n → AreSteps n walk
-      → value s gains n (pushed flow walk (pos d)) ≡ s.plus (value s gains n flow) (repeated s d (walk_gain gains walk))
+      → value s gains n (pushed flow walk (pos d)) ≡ s.plus (value s gains n flow) (repeated s d (gain_along s gains walk))
   walk_worth gains n [] flow d size steps = sym (ap (s.plus (value s gains n flow)) (repeated_none s l d) ∙ l.neutral (value s gains n flow))
   walk_worth gains n (step ∷ walk) flow d size steps =
       let x : V = gained s gains step in
-      let w : V = walk_gain gains walk in
+      let w : V = gain_along s gains walk in
       let new : List ℤ = slice_set flow step.arc (moved flow step (pos d)) in
       walk_worth gains n walk new d (length-set flow step.arc (moved flow step (pos d)) ∙ size) (λ k t h. steps (suc k) t (omega arith))
       ∙ ap (λ v. s.plus v (repeated s d w)) (step_worth gains n flow step d size (steps 0 step (omega arith)))
@@ -119,13 +114,13 @@ module _ {V : Type 0} (s : Scale V) (l : IsLawful s) where
   counted (negsuc d) h = absurd (omega (arith, ints))
 
   -- A push of at least 1 along a walk that gains makes the flow worth more.
-  pub push_rises : (gains : List V) (n : Net) (walk : List Step) (flow new : List ℤ) (amount : ℤ) → length flow ≡ length n → AreSteps n walk → pos 1 ≤ℤ amount → IsAbove s (walk_gain gains walk) s.none
+  pub push_rises : (gains : List V) (n : Net) (walk : List Step) (flow new : List ℤ) (amount : ℤ) → length flow ≡ length n → AreSteps n walk → pos 1 ≤ℤ amount → IsAbove s (gain_along s gains walk) s.none
       → new ≡ pushed flow walk amount → IsAbove s (value s gains n new) (value s gains n flow)
   push_rises gains n walk flow new amount size steps some gain is =
       let d = counted amount some in
       subst (λ xs. IsAbove s (value s gains n xs) (value s gains n flow)) (sym (is ∙ ap (pushed flow walk) d.1))
       (subst (λ w. IsAbove s w (value s gains n flow)) (sym (walk_worth gains n walk flow (suc d.0) size steps))
-      (plus_above (value s gains n flow) (repeated s (suc d.0) (walk_gain gains walk)) (repeated_above d.0 (walk_gain gains walk) gain)))
+      (plus_above (value s gains n flow) (repeated s (suc d.0) (gain_along s gains walk)) (repeated_above d.0 (gain_along s gains walk) gain)))
 
 -- ---- values that fit a bound have ranks
 

@@ -1,10 +1,11 @@
--- Walks of links as steps, and labels that show that none gains.
+-- Closed walks that gain, walks of links as steps, and labels that show that none gains.
 use Rattle.std.specs.Prelude.{◌≡◌, ℕ, ◌<◌, ℤ, pos, Bool, List, length, map, reverse, IsTrue}
-use Rattle.gd_rules.specs.Scale.{Scale}
+use Rattle.gd_rules.specs.Scale.{Scale, IsAbove}
 use Rattle.gd_network.specs.Arcs.{Net}
 use Rattle.gd_network.specs.Potential.{IsStill}
 use Rattle.gd_walks.specs.declared.Step.{Step}
-use Rattle.gd_mincost.specs.Gains.{gain_at}
+use Rattle.gd_walks.specs.Steps.{AreSteps, Follows, Once}
+use Rattle.gd_mincost.specs.Gains.{gain_at, gain_along}
 use Rattle.gd_mincost.specs.Residual.{step_at}
 use Rattle.gd_mincost.specs.Settled.{potential, most_potential}
 
@@ -18,3 +19,15 @@ pub record AreShown {V : Type 0} (s : Scale V) (within : ℤ → V → Bool) (no
   pub count : length labels ≡ nodes
   pub small : (node : ℕ) → node < nodes → IsTrue (within (pos most_potential) (potential s labels node))
   pub still : IsStill s n flow (gain_at s gains) (potential s labels)
+
+-- The walk leads from a node back to it, no step comes twice, and together the steps gain.
+pub record IsGainingWalk {V : Type 0} (s : Scale V) (n : Net) (gains : List V) (walk : List Step) : Type 0 where
+  pub node : ℕ
+  pub steps : AreSteps n walk
+  pub closed : Follows n node walk node
+  pub once : Once walk
+  pub rises : IsAbove s (gain_along s gains walk) s.none
+
+-- The walk leads from a node back to it.
+abbrev pub IsClosed : Net → List Step → Type 0
+IsClosed n walk = (node : ℕ) × Follows n node walk node

@@ -1,5 +1,5 @@
 -- What arcs and steps gain, and what a flow is worth.
-use Rattle.std.specs.Prelude.{◌≡◌, ℕ, ◌*◌, ◌<◌, ℤ, pos, Bool, List, length, get_or, cond, IsTrue}
+use Rattle.std.specs.Prelude.{◌≡◌, ℕ, ◌*◌, ◌<◌, ℤ, pos, Bool, List, [], ◌∷◌, length, get_or, cond, IsTrue}
 use Rattle.gd_rules.specs.Limits.{most_dekatherms}
 use Rattle.gd_rules.specs.Scale.{Scale, total_below, multiple}
 use Rattle.gd_rules.specs.Question.{Question}
@@ -24,6 +24,11 @@ pub record AreGains {V : Type 0} (s : Scale V) (within : ℤ → V → Bool) (co
 -- What a step gains: along an arc what the arc gains, back along it the negative.
 abbrev pub gained : {V : Type 0} → Scale V → List V → Step → V
 gained s gains step = cond step.back (s.minus (gain_at s gains step.arc)) (gain_at s gains step.arc)
+
+-- What the steps of a walk gain together.
+abbrev pub gain_along : {V : Type 0} → Scale V → List V → List Step → V
+gain_along s gains [] = s.none
+gain_along s gains (step ∷ walk) = s.plus (gained s gains step) (gain_along s gains walk)
 
 -- What a flow is worth: each arc's amount times its gain, together.
 abbrev pub value : {V : Type 0} → Scale V → List V → Net → List ℤ → V

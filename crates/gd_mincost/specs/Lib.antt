@@ -1,6 +1,5 @@
 pub mod Settled
 pub mod Gains
-pub mod Part
 pub mod Residual
 pub mod Closed
 pub mod Stillness

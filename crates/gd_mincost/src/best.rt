@@ -1,13 +1,14 @@
 //! A feasible flow made best.
 
-ghost use Rattle.std.specs.Prelude.{◌≡◌, ◌+◌, length, map, IfOk, OnOk};
+ghost use Rattle.std.specs.Prelude.{◌≡◌, ◌+◌, length, map, IfOk, OnOk, MatchOption};
+ghost use Rattle.gd_rules.specs.Scale.{IsAbove};
 ghost use Rattle.gd_mincost.specs.Settled.{IsSettled, worth};
-ghost use Rattle.gd_mincost.specs.Gains.{AreGains};
+ghost use Rattle.gd_mincost.specs.Gains.{AreGains, value};
 ghost use Rattle.gd_flow.specs.Feasible.{IsFeasible};
 ghost use Rattle.gd_mincost.specs.Closed.{AreShown};
 
+use crate::found::push_found;
 use crate::gains::gains;
-use crate::part::Part;
 use crate::residual::Residual;
 use crate::still::show_best;
 use crate::walk::push_closed;
@@ -15,6 +16,7 @@ use gd_cost::{ByClass, Cost};
 use gd_flow::Feasible;
 use gd_labels::{Found, potentials};
 use gd_network::{Flow, Network};
+use gd_shortest::Walks;
 use gd_walks::within_is_near;
 use std::alloc::{AllocError, Global};
 use std::marker::Model;
@@ -66,10 +68,44 @@ impl<'q, C: Cost> Best<'q, C> {
     }
 }
 
+/// Pushes once along a closed walk that gains: the next one found that does, or else any that there is. Where there is none,
+/// it answers potentials that show it.
+fn improve<C: Cost>(
+    alloc: Global,
+    network: &Network<'_>,
+    gains: &[C],
+    flow: &mut [i64],
+    walks: &mut Walks,
+) -> Result<Option<Vec<C>>, AllocError>
+    requires gains { AreGains C.scale C.within (length network.now.arcs) (map C.meaning gains.now) }
+    requires feasible { IsFeasible network.now.arcs flow.old }
+    ensures feasible { OnOk result (IsFeasible network.now.arcs flow.new) }
+    ensures improved { IfOk result (λ found. MatchOption found
+        (IsAbove C.scale (value C.scale (map C.meaning gains.now) network.now.arcs flow.new)
+        (value C.scale (map C.meaning gains.now) network.now.arcs flow.old))
+        (λ labels. AreShown C.scale C.within (length network.now.question.asked.elements + 1)
+        network.now.arcs flow.new (map C.meaning gains.now) (map C.meaning labels.items))) }
+{
+    network.known();
+    if push_found(alloc, network, gains, flow, walks)? {
+        return Ok(None);
+    }
+    within_is_near(network, flow);
+    let residual = Residual::of(alloc, network, gains, flow)?;
+    match potentials(alloc, &residual.links, network.node_count())? {
+        Found::Labels(labels) => Ok(Some(labels)),
+        Found::Closed(walk) => {
+            push_closed(alloc, network, &residual, gains, flow, &walk)?;
+            walks.begin(network, flow);
+            Ok(None)
+        }
+    }
+}
+
 /// Pushes along closed walks that gain until there is none (Klein), and answers potentials that show it.
 ///
-/// What the flow is worth rises at each push. A search takes a part of the steps, and the next part where no walk of this
-/// one gains, up to all of them.
+/// What the flow is worth rises at each push. Where a search over all steps finds that some walk gains, the walks that follow
+/// are looked for one by one, by shortest walks whose potentials are kept; the last word has a search over all steps.
 fn rise<C: Cost>(
     alloc: Global,
     network: &Network<'_>,
@@ -84,16 +120,10 @@ fn rise<C: Cost>(
         network.now.arcs flow.new (map C.meaning gains.now) (map C.meaning labels.items)) }
 {
     network.known();
-    let mut part = Part::first();
+    let mut walks = Walks::of(alloc, network)?;
     loop {
-        within_is_near(network, flow);
-        let residual = Residual::of(alloc, network, gains, flow, part)?;
-        match potentials(alloc, &residual.links, network.node_count())? {
-            Found::Closed(walk) => push_closed(alloc, network, &residual, gains, flow, &walk)?,
-            Found::Labels(labels) => match part.next() {
-                Some(next) => part = next,
-                None => return Ok(labels),
-            },
+        if let Some(labels) = improve(alloc, network, gains, flow, &mut walks)? {
+            return Ok(labels);
         }
     }
 }

@@ -2,8 +2,8 @@
 #![tactic(auto)]
 
 mod best;
+mod found;
 mod gains;
-mod part;
 mod residual;
 mod still;
 mod walk;

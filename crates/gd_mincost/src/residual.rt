@@ -3,10 +3,8 @@
 ghost use Rattle.std.specs.Prelude.{◌≡◌, ◌<◌, ◌++◌, ◌∷◌, [], pos, ◌≤ℤ◌, ◌<ℤ◌, length, map, IfOk, OnOk};
 ghost use Rattle.gd_walks.specs.Steps.{room, IsNear};
 ghost use Rattle.gd_mincost.specs.Gains.{AreGains};
-ghost use Rattle.gd_mincost.specs.Part.{IsPart, IsLast};
 ghost use Rattle.gd_mincost.specs.Residual.{IsSound, IsWhole, Holds, Keeps};
 
-use crate::part::Part;
 use gd_cost::Cost;
 use gd_labels::Links;
 use gd_network::Network;
@@ -56,29 +54,27 @@ impl<C: Cost> Residual<C> {
         Ok(())
     }
 
-    /// Adds the link of a step, where the step has so much room.
+    /// Adds the link of a step, where the step has room.
     fn add(
         &mut self,
         network: &Network<'_>,
         gains: &[C],
         flow: &[i64],
         step: Step,
-        least: i64,
     ) -> Result<(), AllocError>
         requires arc { step.arc < length network.now.arcs }
         requires gains { AreGains C.scale C.within (length network.now.arcs)
             (map C.meaning gains.now) }
         requires near { IsNear network.now.arcs flow.now }
-        requires least { pos 0 <ℤ least }
         requires sound { IsSound C.scale C.meaning network.now.arcs flow.now
             (map C.meaning gains.now) self.old }
         ensures sound { OnOk result (IsSound C.scale C.meaning network.now.arcs flow.now
             (map C.meaning gains.now) self.new) }
         ensures kept { OnOk result (Keeps self.old.steps.items self.new.steps.items) }
-        ensures added { OnOk result (least ≤ℤ room network.now.arcs flow.now step
+        ensures added { OnOk result (pos 0 <ℤ room network.now.arcs flow.now step
             → Holds self.new.steps.items step) }
     {
-        if step.room(network, flow) < least {
+        if step.room(network, flow) <= 0 {
             return Ok(());
         }
         let arc = network.arc(step.arc);
@@ -90,31 +86,28 @@ impl<C: Cost> Residual<C> {
         }
     }
 
-    /// Adds the links of both steps of an arc, as far as they take part.
+    /// Adds the links of both steps of an arc, as far as they have room.
     fn add_arc(
         &mut self,
         network: &Network<'_>,
         gains: &[C],
         flow: &[i64],
-        part: Part,
         arc: usize,
     ) -> Result<(), AllocError>
         requires arc { arc < length network.now.arcs }
         requires gains { AreGains C.scale C.within (length network.now.arcs)
             (map C.meaning gains.now) }
         requires near { IsNear network.now.arcs flow.now }
-        requires part { IsPart part }
         requires sound { IsSound C.scale C.meaning network.now.arcs flow.now
             (map C.meaning gains.now) self.old }
         ensures sound { OnOk result (IsSound C.scale C.meaning network.now.arcs flow.now
             (map C.meaning gains.now) self.new) }
         ensures kept { OnOk result (Keeps self.old.steps.items self.new.steps.items) }
-        ensures added { OnOk result (IsLast part → (step : Step) → step.arc ≡ arc
+        ensures added { OnOk result ((step : Step) → step.arc ≡ arc
             → pos 0 <ℤ room network.now.arcs flow.now step → Holds self.new.steps.items step) }
     {
-        let least = part.least_room(network, arc);
-        self.add(network, gains, flow, Step { arc, back: false }, least)?;
-        self.add(network, gains, flow, Step { arc, back: true }, least)?;
+        self.add(network, gains, flow, Step { arc, back: false })?;
+        self.add(network, gains, flow, Step { arc, back: true })?;
         Ok(())
     }
 
@@ -124,12 +117,10 @@ impl<C: Cost> Residual<C> {
         network: &Network<'_>,
         gains: &[C],
         flow: &[i64],
-        part: Part,
     ) -> Result<(), AllocError>
         requires gains { AreGains C.scale C.within (length network.now.arcs)
             (map C.meaning gains.now) }
         requires near { IsNear network.now.arcs flow.now }
-        requires part { IsPart part }
         requires sound { IsSound C.scale C.meaning network.now.arcs flow.now
             (map C.meaning gains.now) self.old }
         ensures sound { OnOk result (IsSound C.scale C.meaning network.now.arcs flow.now
@@ -138,13 +129,12 @@ impl<C: Cost> Residual<C> {
     {
         network.known();
         for arc in (0..network.node_count() - 1).rev() {
-            self.add_arc(network, gains, flow, part, arc)?;
+            self.add_arc(network, gains, flow, arc)?;
         }
         Ok(())
     }
 
-    /// The links of a flow, of the steps that take part: along each arc that can carry so much more, and back along each
-    /// that can carry so much less.
+    /// The links of a flow: along each arc that can carry more, and back along each that can carry less.
     ///
     /// The elements' links come twice, from the first and at the end from the last: they are a tree, each with its node
     /// behind an earlier one, so that the end of one sweep and the beginning of the next carry a label from any node of it
@@ -154,23 +144,21 @@ impl<C: Cost> Residual<C> {
         network: &Network<'_>,
         gains: &[C],
         flow: &[i64],
-        part: Part,
     ) -> Result<Residual<C>, AllocError>
         requires gains { AreGains C.scale C.within (length network.now.arcs)
             (map C.meaning gains.now) }
         requires near { IsNear network.now.arcs flow.now }
-        requires part { IsPart part }
         ensures sound { IfOk result (IsSound C.scale C.meaning network.now.arcs flow.now
             (map C.meaning gains.now)) }
         ensures whole { IfOk result
-            (λ residual. IsLast part
-            → IsWhole network.now.arcs flow.now (length network.now.arcs) residual.steps.items) }
+            (λ residual. IsWhole network.now.arcs flow.now (length network.now.arcs)
+            residual.steps.items) }
     {
         let mut residual = Residual::none(alloc);
         for arc in 0..network.arc_count() {
-            residual.add_arc(network, gains, flow, part, arc)?;
+            residual.add_arc(network, gains, flow, arc)?;
         }
-        residual.add_elements(network, gains, flow, part)?;
+        residual.add_elements(network, gains, flow)?;
         Ok(residual)
     }
 }

@@ -16,7 +16,7 @@ use gd_walks::{Step, least_room, near_fits, push, within_is_near};
 use std::alloc::{AllocError, Global};
 
 /// More than any arc carries.
-const GREATEST: i64 = 1 << 62;
+pub(crate) const GREATEST: i64 = 1 << 62;
 
 /// The steps of a walk whose links are listed from the last to the first.
 fn steps_along(alloc: Global, steps: &[Step], walk: &[usize]) -> Result<Vec<Step>, AllocError>

@@ -25,6 +25,7 @@ use gd_units::Dth;
 use simplex::Simplex;
 use start::start;
 use std::alloc::{AllocError, Global};
+pub use worth::{Gains, Worth};
 
 /// A schedule that may be best, and potentials that may show it.
 #[derive(Drop)]

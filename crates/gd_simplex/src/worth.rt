@@ -23,22 +23,22 @@ const PIECES: usize = 16;
 /// bits: each is a sum along a way through the tree, which comes to each of at most 4,352 points and pools once, and so
 /// goes over fewer lines. Were one to do so, it would run into the next class, and the proposal would be worse; nothing
 /// else would be wrong.
-#[derive(Clone, Copy, Debug)]
-pub(crate) struct Worth {
+#[derive(Clone, Copy, Debug, PartialEq, Eq, PartialOrd, Ord)]
+pub struct Worth {
     classes: i128,
     spread: i128,
 }
 
 impl Worth {
     /// Nothing.
-    pub(crate) const NONE: Worth = Worth {
+    pub const NONE: Worth = Worth {
         classes: 0,
         spread: 0,
     };
 
     /// The sum.
     #[inline]
-    pub(crate) fn plus(self, other: Worth) -> Worth {
+    pub fn plus(self, other: Worth) -> Worth {
         Worth {
             classes: self.classes.wrapping_add(other.classes),
             spread: self.spread.wrapping_add(other.spread),
@@ -47,7 +47,7 @@ impl Worth {
 
     /// The difference.
     #[inline]
-    pub(crate) fn less(self, other: Worth) -> Worth {
+    pub fn less(self, other: Worth) -> Worth {
         Worth {
             classes: self.classes.wrapping_sub(other.classes),
             spread: self.spread.wrapping_sub(other.spread),
@@ -56,7 +56,7 @@ impl Worth {
 
     /// Whether it is greater than another.
     #[inline]
-    pub(crate) fn is_above(self, other: Worth) -> bool {
+    pub fn is_above(self, other: Worth) -> bool {
         if self.classes == other.classes {
             self.spread > other.spread
         } else {
@@ -92,7 +92,7 @@ fn numbers(together: i128, bits: u32) -> [i128; Class::COUNT] {
 
 /// What a dekatherm of each class is worth in each piece of its arc. Class 0 stands for elements.
 #[derive(Drop)]
-pub(crate) struct Gains {
+pub struct Gains {
     worths: Vec<Worth>,
 }
 
@@ -119,7 +119,7 @@ fn gained(class: u32, piece: i128, tenths: bool) -> Worth {
 
 impl Gains {
     /// The table of what the pieces gain.
-    pub(crate) fn of(alloc: Global, tenths: bool) -> Result<Gains, AllocError> {
+    pub fn of(alloc: Global, tenths: bool) -> Result<Gains, AllocError> {
         let mut worths = Vec::with_capacity(alloc, CLASSES * PIECES)?;
         for entry in 0..CLASSES * PIECES {
             let class = (entry / PIECES) as u32;
@@ -131,7 +131,7 @@ impl Gains {
 
     /// What a dekatherm gains in a piece of an arc of this class.
     #[inline]
-    pub(crate) fn gain(&self, class: u8, piece: u8) -> Worth {
+    pub fn gain(&self, class: u8, piece: u8) -> Worth {
         match self.worths.get(class as usize * PIECES + piece as usize) {
             Some(worth) => *worth,
             None => Worth::NONE,

@@ -33,7 +33,7 @@ returns-then-step-clause-sound g c =
     let within : step.arc < length gains = subst (λ m. step.arc < m) (sym c.requires.gains.size) c.requires.arc in
     let same : f x ≡ gain_at s gains step.arc = read f c.args.gains.now step.arc x s.none within c.index-gains-step.is in
     let fits : FitsSigned w64 c.room.result = record { sfits = c.room.type_inv } in
-    let some : pos 0 <ℤ room n flow step = subst (λ z. pos 0 <ℤ z) c.room.ensures (some_room c.room.result c.args.least fits c.ranges.least c.requires.least c.if-room-least.false) in
+    let some : pos 0 <ℤ room n flow step = subst (λ z. pos 0 <ℤ z) c.room.ensures (some_room c.room.result fits c.if-room-le0.false) in
     let gain : f c.sub.result ≡ s.minus (gain_at s gains step.arc) =
     c.sub.ensures ∙ ap (λ z. s.plus z (s.minus (f x))) c.zero.ensures ∙ neutral_left s g.met.C.Cost.lawful (s.minus (f x)) ∙ ap s.minus same in
     let link : IsLink s n flow gains step arc.to arc.from (f c.sub.result) = link_back s n flow gains step arc (f c.sub.result) c.requires.arc c.arc-arc.ensures some c.if-step.true gain in
@@ -62,7 +62,7 @@ returns-else-step-clause-sound g c =
     let within : step.arc < length gains = subst (λ m. step.arc < m) (sym c.requires.gains.size) c.requires.arc in
     let same : f x ≡ gain_at s gains step.arc = read f c.args.gains.now step.arc x s.none within c.index-gains-step.is in
     let fits : FitsSigned w64 c.room.result = record { sfits = c.room.type_inv } in
-    let some : pos 0 <ℤ room n flow step = subst (λ z. pos 0 <ℤ z) c.room.ensures (some_room c.room.result c.args.least fits c.ranges.least c.requires.least c.if-room-least.false) in
+    let some : pos 0 <ℤ room n flow step = subst (λ z. pos 0 <ℤ z) c.room.ensures (some_room c.room.result fits c.if-room-le0.false) in
     let link : IsLink s n flow gains step arc.from arc.to (f x) = link_along s n flow gains step arc (f x) c.requires.arc c.arc-arc.ensures some c.if-step.false same in
     let told = c.link-else-step.ensures in
     on_ok_all c.link-else-step.result told.from told.to told.gain told.steps (λ from to gain_is steps.
