@@ -1,31 +1,32 @@
 #!/usr/bin/env python3
-"""Counts the walks of `PROGRAM solve` on random questions.
+"""Times `PROGRAM ARGUMENT ...`, and counts the walks that the settling looks at.
 
-    bench/walks.py PROGRAM [ARGUMENT ...] [--only WORD]
+    bench/walks.py PROGRAM ARGUMENT ... [--only WORD]
 
-With arguments, `PROGRAM ARGUMENT ...` gets the questions on its standard input
-in place of `PROGRAM solve`. They are those with WORD in their names, else the
-random ones of 200, 1,000 and 5,000 lines.
+PROGRAM is `gd_proposals`, with the argument `thrown-away` for answers without a
+proposal; it gets the questions on its standard input. They are those with WORD
+in their names, else the random ones of 200, 1,000 and 5,000 lines.
 
-Each search of the settling takes one table of labels, 256 bytes a node, and
-ends with one closed walk, but for the searches that end its 216 parts. So this
-counts the calls of malloc for that many bytes, by a library that is loaded
-before the C library. It takes gcc.
+Each walk that the settling looks at takes one table of marks, a byte a node,
+and so does each search of the repair. So this counts the calls of malloc for
+that many bytes, by a library that is loaded before the C library, in a run of
+its own. It takes gcc. The seconds are those of a whole run by the clock, the
+peak of memory is that of all runs so far; 1 MB is 1,000,000 bytes.
 """
 
 import argparse
 import os
+import resource
 import subprocess
 import sys
 import tempfile
+import time
 from pathlib import Path
 
-from measure import GENERATE
+from measure import GENERATE, MEGABYTE, RSS_BYTES
 from solve import CASES
 
-LABEL_BYTES = 256
-PARTS = 216
-# The first questions, which don't take the plain searches too long.
+# The first questions, which don't take too long without a proposal.
 USUAL = 3
 
 COUNTING = """
@@ -50,17 +51,26 @@ __attribute__((destructor)) static void end(void) { fprintf(stderr, "%lu\\n", co
 """
 
 
-def searches(command, library, text):
-    """How many tables of labels the command takes for a question."""
+def walks(command, library, text):
+    """How many tables of marks the command takes for a question."""
     kinds = [row.split(b",", 1)[0] for row in text.splitlines()]
     nodes = kinds.count(b"segment") + 1 + kinds.count(b"point") + kinds.count(b"pool")
-    environment = {**os.environ, "LD_PRELOAD": library, "COUNTED_BYTES": str(LABEL_BYTES * nodes)}
+    environment = {**os.environ, "LD_PRELOAD": library, "COUNTED_BYTES": str(nodes)}
     run = subprocess.run(command, input=text, capture_output=True, env=environment)
     return int(run.stderr.split()[-1])
 
 
+def measure(name, command, library, text):
+    """Prints a question's row: seconds, peak and walks."""
+    began = time.perf_counter()
+    subprocess.run(command, input=text, stdout=subprocess.DEVNULL)
+    took = time.perf_counter() - began
+    peak = resource.getrusage(resource.RUSAGE_CHILDREN).ru_maxrss * RSS_BYTES / MEGABYTE
+    print(f"{name:<22}{took:>10.3f}{peak:>9.1f}{walks(command, library, text):>10}", flush=True)
+
+
 def main():
-    parser = argparse.ArgumentParser(description="Counts the walks of `PROGRAM solve`.")
+    parser = argparse.ArgumentParser(description="Times a program, and counts walks that the settling looks at.")
     parser.add_argument("program", metavar="PROGRAM")
     parser.add_argument("arguments", nargs="*", metavar="ARGUMENT", help="else solve")
     parser.add_argument("--only", metavar="WORD", help="the questions named so")
@@ -73,7 +83,7 @@ def main():
         subprocess.run(["gcc", "-shared", "-fPIC", "-O2", source, "-o", library, "-ldl"], check=True)
         for case in cases:
             text = subprocess.run([sys.executable, GENERATE, *case.words], stdout=subprocess.PIPE, check=True).stdout
-            print(f"{case.name:<22}{searches(command, str(library), text) - PARTS:>10}", flush=True)
+            measure(case.name, command, str(library), text)
 
 
 if __name__ == "__main__":
