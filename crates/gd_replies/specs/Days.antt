@@ -1,5 +1,5 @@
 -- The rows that tell what a book answers to a call of its day.
-use Rattle.std.specs.Prelude.{◌≡◌, ℕ, ◌+◌, List, [], ◌∷◌, ◌++◌, length, map}
+use Rattle.std.specs.Prelude.{◌≡◌, ℕ, ◌+◌, List, ◌∷◌, ◌++◌, length, map}
 use Rattle.std.specs.List.{range_with_len}
 use Rattle.gd_rules.specs.Question.{Question, line}
 use Rattle.gd_system.specs.Pipeline.{Pipeline}

@@ -3,3 +3,4 @@ pub mod Calls
 pub mod Days
 pub mod Lines
 pub mod Replies
+pub mod Rows

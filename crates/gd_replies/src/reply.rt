@@ -1,10 +1,12 @@
 //! A row of the output, and how it is printed.
 
-ghost use Rattle.std.specs.Prelude.{Some};
-ghost use Rattle.gd_replies.specs.Calls.{refusal_detail};
-ghost use Rattle.gd_replies.specs.Lines.{line_of, spread_field};
+ghost use Rattle.std.specs.Prelude.{◌≡◌, Some};
+ghost use Rattle.gd_replies.specs.Lines.{fields_of, line_of};
+ghost use Rattle.gd_replies.specs.Rows.{row_fields};
 
 use crate::call::{Call, refusal_number};
+use crate::row::Field::{Certificate, Number, Word};
+use crate::row::{DetailField, Field, Row, SpreadField};
 use gd_certificate::CertFault;
 use gd_machine::Refusal;
 use gd_text_part::{Member, TextFault};
@@ -194,117 +196,153 @@ pub enum Reply {
     OldVersion,
 }
 
-/// A word of the spread as a field, which is empty where the word is 0.
-#[derive(Clone, Copy)]
-struct SpreadField(i128);
-
-impl fmt::Display for SpreadField {
-    ghost output = { λ s. Some (spread_field s.0) };
-
-    fn fmt<W: fmt::Write>(&self, f: &mut fmt::Formatter<W>) -> fmt::Result {
-        let spread = self.0;
-        if spread == 0 {
-            f.write_str("")
-        } else {
-            write!(f, "{spread}")
-        }
-    }
-}
-
-/// What is told beside a refusal, as a field: the current round, or why a set is no cut.
-#[derive(Clone, Copy)]
-struct DetailField(Refusal);
-
-impl fmt::Display for DetailField {
-    ghost output = { λ d. Some (refusal_detail d.0) };
-
-    fn fmt<W: fmt::Write>(&self, f: &mut fmt::Formatter<W>) -> fmt::Result {
-        match self.0 {
-            Refusal::StaleRound(round) => write!(f, "{round}"),
-            Refusal::NoCutProof(fault) => write!(f, "{fault}"),
-            _ => f.write_str(""),
-        }
-    }
-}
-
-impl fmt::Display for Reply {
-    ghost output = { λ r. Some (line_of r) };
-
-    fn fmt<W: fmt::Write>(&self, f: &mut fmt::Formatter<W>) -> fmt::Result {
-        match self {
-            Reply::Fault(fault) => write!(f, "fault,{fault},,,,\n"),
-            Reply::Allowed => f.write_str("allowed,,,,,,,\n"),
-            Reply::Shape => f.write_str("broken,Shape,,,,,,\n"),
-            Reply::BelowFloor(line) => write!(f, "broken,BelowFloor,{line},,,,,\n"),
-            Reply::AboveCeiling(line) => write!(f, "broken,AboveCeiling,{line},,,,,\n"),
-            Reply::OverCapacity(element) => write!(f, "broken,OverCapacity,{element},,,,,\n"),
-            Reply::Unbalanced(element) => write!(f, "broken,Unbalanced,{element},,,,,\n"),
-            Reply::Best => f.write_str("best,,,,,,,\n"),
-            Reply::PriceTooLarge(element) => write!(f, "broken,PriceTooLarge,{element},,,,,\n"),
-            Reply::PriceOnSlack(element) => write!(f, "broken,PriceOnSlack,{element},,,,,\n"),
-            Reply::Underfilled(line) => write!(f, "broken,Underfilled,{line},,,,,\n"),
-            Reply::Overfilled(line) => write!(f, "broken,Overfilled,{line},,,,,\n"),
-            Reply::Cut(excess) => write!(f, "cut,{excess},,,,,,\n"),
-            Reply::NotCut => f.write_str("broken,NotCut,,,,,,\n"),
-            Reply::Total(class, quantity) => write!(f, "total,{class},{quantity},,,,,\n"),
-            Reply::Sched(line, quantity) => write!(f, "sched,{line},{quantity},,,,,\n"),
+impl Reply {
+    /// The fields of the row.
+    fn row(&self) -> Row
+        ensures { row_fields result ≡ fields_of self.now }
+    {
+        match *self {
+            Reply::Fault(fault) => Row::Fault(fault),
+            Reply::Allowed => Row::One("allowed"),
+            Reply::Shape => Row::Two("broken", Word("Shape")),
+            Reply::BelowFloor(line) => Row::Three("broken", Word("BelowFloor"), Number(line)),
+            Reply::AboveCeiling(line) => Row::Three("broken", Word("AboveCeiling"), Number(line)),
+            Reply::OverCapacity(element) => Row::Three(
+                "broken",
+                Word("OverCapacity"),
+                Field::Name(element),
+            ),
+            Reply::Unbalanced(element) => Row::Three(
+                "broken",
+                Word("Unbalanced"),
+                Field::Name(element),
+            ),
+            Reply::Best => Row::One("best"),
+            Reply::PriceTooLarge(element) => Row::Three(
+                "broken",
+                Word("PriceTooLarge"),
+                Field::Name(element),
+            ),
+            Reply::PriceOnSlack(element) => Row::Three(
+                "broken",
+                Word("PriceOnSlack"),
+                Field::Name(element),
+            ),
+            Reply::Underfilled(line) => Row::Three("broken", Word("Underfilled"), Number(line)),
+            Reply::Overfilled(line) => Row::Three("broken", Word("Overfilled"), Number(line)),
+            Reply::Cut(excess) => Row::Two("cut", Number(excess)),
+            Reply::NotCut => Row::Two("broken", Word("NotCut")),
+            Reply::Total(class, quantity) => Row::Three("total", Number(class), Number(quantity)),
+            Reply::Sched(line, quantity) => Row::Three("sched", Number(line), Number(quantity)),
             Reply::Price {
                 element,
                 level,
                 word,
                 spread,
-            } => {
-                let spread = SpreadField(*spread);
-                write!(f, "price,{element},{level},{word},{spread},,,\n")
-            }
-            Reply::Inside(Member::Place, name) => write!(f, "inside,place,{name},,,,,\n"),
-            Reply::Inside(Member::Point, name) => write!(f, "inside,point,{name},,,,,\n"),
-            Reply::Inside(Member::Pool, name) => write!(f, "inside,pool,{name},,,,,\n"),
+            } => Row::Five(
+                "price",
+                Field::Name(element),
+                Number(level),
+                Field::Signed(word),
+                Field::Spread(SpreadField(spread)),
+            ),
+            Reply::Inside(Member::Place, name) => Row::Three(
+                "inside",
+                Word("place"),
+                Field::Name(name),
+            ),
+            Reply::Inside(Member::Point, name) => Row::Three(
+                "inside",
+                Word("point"),
+                Field::Name(name),
+            ),
+            Reply::Inside(Member::Pool, name) => Row::Three(
+                "inside",
+                Word("pool"),
+                Field::Name(name),
+            ),
             Reply::Accepted {
                 number,
                 cycle,
                 line,
-            } => write!(f, "accepted,{number},{cycle},{line},,,,\n"),
-            Reply::Done(number) => write!(f, "done,{number},,,,,,\n"),
+            } => Row::Four("accepted", Number(number), Number(cycle), Number(line)),
+            Reply::Done(number) => Row::Two("done", Number(number)),
             Reply::Frozen {
                 number,
                 cycle,
                 round,
                 lines,
-            } => write!(f, "frozen,{number},{cycle},{round},{lines},,,\n"),
+            } => Row::Five(
+                "frozen",
+                Number(number),
+                Number(cycle),
+                Number(round),
+                Number(lines),
+            ),
             Reply::Bound {
                 line,
                 class,
                 floor,
                 ceiling,
-            } => write!(f, "bound,{line},{class},{floor},{ceiling},,,\n"),
+            } => Row::Five(
+                "bound",
+                Number(line),
+                Number(class),
+                Number(floor),
+                Number(ceiling),
+            ),
             Reply::Published {
                 number,
                 cycle,
                 round,
-            } => write!(f, "published,{number},{cycle},{round},,,,\n"),
-            Reply::Bumped(line, quantity) => write!(f, "bumped,{line},{quantity},,,,,\n"),
+            } => Row::Four("published", Number(number), Number(cycle), Number(round)),
+            Reply::Bumped(line, quantity) => Row::Three("bumped", Number(line), Number(quantity)),
             Reply::Declared {
                 number,
                 cycle,
                 round,
-            } => write!(f, "declared,{number},{cycle},{round},,,,\n"),
+            } => Row::Four("declared", Number(number), Number(cycle), Number(round)),
             Reply::Refused(call, refusal) => {
-                let number = refusal_number(*call, *refusal);
-                let detail = DetailField(*refusal);
-                write!(f, "refused,{call},{number},{refusal},{detail},,,\n")
-            }
-            Reply::UncertifiedShape(fault) => {
-                write!(f, "refused,publish,3,Certificate,{fault},,,\n")
-            }
-            Reply::UncertifiedLine(fault, line) => {
-                write!(f, "refused,publish,3,Certificate,{fault},{line},,\n")
-            }
-            Reply::UncertifiedElement(fault, element) => {
-                write!(f, "refused,publish,3,Certificate,{fault},{element},,\n")
-            }
-            Reply::OutOfRange => f.write_str("refused,calendar,1,OutOfRange,,,,\n"),
-            Reply::BadZone => f.write_str("refused,calendar,2,BadZone,,,,\n"),
+                let number = refusal_number(call, refusal);
+                Row::Five(
+                    "refused",
+                    Field::Call(call),
+                    Number(u64::from(number)),
+                    Field::Refusal(refusal),
+                    Field::Detail(DetailField(refusal)),
+                )
+            },
+            Reply::UncertifiedShape(fault) => Row::Six(
+                "refused",
+                Word("publish"),
+                Word("3"),
+                Word("Certificate"),
+                Certificate(fault),
+                Word(""),
+            ),
+            Reply::UncertifiedLine(fault, line) => Row::Six(
+                "refused",
+                Word("publish"),
+                Word("3"),
+                Word("Certificate"),
+                Certificate(fault),
+                Number(line),
+            ),
+            Reply::UncertifiedElement(fault, element) => Row::Six(
+                "refused",
+                Word("publish"),
+                Word("3"),
+                Word("Certificate"),
+                Certificate(fault),
+                Field::Name(element),
+            ),
+            Reply::OutOfRange => Row::Four(
+                "refused",
+                Word("calendar"),
+                Word("1"),
+                Word("OutOfRange"),
+            ),
+            Reply::BadZone => Row::Four("refused", Word("calendar"), Word("2"), Word("BadZone")),
             Reply::Cycle {
                 cycle,
                 leaves,
@@ -313,9 +351,15 @@ impl fmt::Display for Reply {
                 confirmed,
                 schedules,
                 effective,
-            } => write!(
-                f,
-                "cycle,{cycle},{leaves},{received},{quick},{confirmed},{schedules},{effective}\n"
+            } => Row::Eight(
+                "cycle",
+                Number(cycle),
+                Number(leaves),
+                Number(received),
+                Number(quick),
+                Number(confirmed),
+                Number(schedules),
+                Number(effective),
             ),
             Reply::Hours {
                 length,
@@ -324,59 +368,110 @@ impl fmt::Display for Reply {
                 intraday_1,
                 intraday_2,
                 intraday_3,
-            } => write!(
-                f,
-                "hours,{length},{timely},{evening},{intraday_1},{intraday_2},{intraday_3},\n"
+            } => Row::Seven(
+                "hours",
+                Number(length),
+                Number(timely),
+                Number(evening),
+                Number(intraday_1),
+                Number(intraday_2),
+                Number(intraday_3),
             ),
             Reply::ReceiptAccepted {
                 session,
                 number,
                 cycle,
                 line,
-            } => write!(f, "receipt,{session},accepted,{number},{cycle},{line},,\n"),
-            Reply::ReceiptDone { session, number } => {
-                write!(f, "receipt,{session},done,{number},,,,\n")
-            }
+            } => Row::Six(
+                "receipt",
+                Number(session),
+                Word("accepted"),
+                Number(number),
+                Number(cycle),
+                Number(line),
+            ),
+            Reply::ReceiptDone { session, number } => Row::Four(
+                "receipt",
+                Number(session),
+                Word("done"),
+                Number(number),
+            ),
             Reply::ReceiptRefused {
                 session,
                 length,
                 call,
                 refusal,
             } => {
-                let number = refusal_number(*call, *refusal);
-                write!(
-                    f,
-                    "receipt,{session},refused,{length},{number},{refusal},,\n"
+                let number = refusal_number(call, refusal);
+                Row::Six(
+                    "receipt",
+                    Number(session),
+                    Word("refused"),
+                    Number(length),
+                    Number(u64::from(number)),
+                    Field::Refusal(refusal),
                 )
-            }
-            Reply::Slot(slot) => write!(f, "slot,{slot},,,,,,\n"),
+            },
+            Reply::Slot(slot) => Row::Two("slot", Number(slot)),
             Reply::Reconciled {
                 slot,
                 events,
                 nominations,
                 dekatherms,
-            } => write!(
-                f,
-                "reconciled,{slot},{events},{nominations},{dekatherms},,,\n"
+            } => Row::Five(
+                "reconciled",
+                Number(slot),
+                Number(events),
+                Number(nominations),
+                Number(dekatherms),
             ),
-            Reply::Mismatch { slot, list, index } => {
-                write!(f, "mismatch,{slot},{list},{index},,,,\n")
-            }
-            Reply::Missing { slot, count } => {
-                write!(f, "refused,close,3,Missing,{count},{slot},,\n")
-            }
-            Reply::NoThread => f.write_str("fault,0,NoThread,,,,,\n"),
-            Reply::TooMany => f.write_str("fault,0,TooMany,,,,,\n"),
-            Reply::Kept => f.write_str("refused,keep,1,Kept,,,,\n"),
-            Reply::Audited(count) => write!(f, "audited,{count},,,,,,\n"),
-            Reply::Damaged { book, cycle } => write!(f, "unsound,{book},{cycle},Damaged,,,,\n"),
-            Reply::Unsound { book, cycle, fault } => {
-                write!(f, "unsound,{book},{cycle},{fault},,,,\n")
-            }
-            Reply::Migrated(count) => write!(f, "migrated,{count},,,,,,\n"),
-            Reply::OtherVersion => f.write_str("refused,migrate,1,OtherVersion,,,,\n"),
-            Reply::Store => f.write_str("fault,0,Store,,,,,\n"),
-            Reply::OldVersion => f.write_str("fault,0,OldVersion,,,,,\n"),
+            Reply::Mismatch { slot, list, index } => Row::Four(
+                "mismatch",
+                Number(slot),
+                Number(list),
+                Number(index),
+            ),
+            Reply::Missing { slot, count } => Row::Six(
+                "refused",
+                Word("close"),
+                Word("3"),
+                Word("Missing"),
+                Number(count),
+                Number(slot),
+            ),
+            Reply::NoThread => Row::Three("fault", Word("0"), Word("NoThread")),
+            Reply::TooMany => Row::Three("fault", Word("0"), Word("TooMany")),
+            Reply::Kept => Row::Four("refused", Word("keep"), Word("1"), Word("Kept")),
+            Reply::Audited(count) => Row::Two("audited", Number(count)),
+            Reply::Damaged { book, cycle } => Row::Four(
+                "unsound",
+                Field::Name(book),
+                Number(cycle),
+                Word("Damaged"),
+            ),
+            Reply::Unsound { book, cycle, fault } => Row::Four(
+                "unsound",
+                Field::Name(book),
+                Number(cycle),
+                Certificate(fault),
+            ),
+            Reply::Migrated(count) => Row::Two("migrated", Number(count)),
+            Reply::OtherVersion => Row::Four(
+                "refused",
+                Word("migrate"),
+                Word("1"),
+                Word("OtherVersion"),
+            ),
+            Reply::Store => Row::Three("fault", Word("0"), Word("Store")),
+            Reply::OldVersion => Row::Three("fault", Word("0"), Word("OldVersion")),
         }
+    }
+}
+
+impl fmt::Display for Reply {
+    ghost output = { λ r. Some (line_of r) };
+
+    fn fmt<W: fmt::Write>(&self, f: &mut fmt::Formatter<W>) -> fmt::Result {
+        self.row().fmt(f)
     }
 }

@@ -1,6 +1,5 @@
-use Rattle.std.proofs.Common.{◌≡◌, ◌∙◌, ap, List, ◌++◌, ◌∷◌, [], sym, map, rules, true, refl, length, arith}
+use Rattle.std.proofs.Common.{◌∙◌, ap, List, ◌++◌, ◌∷◌, [], sym, map, length, arith}
 use Rattle.std.specs.List.{range_with_len}
-use Rattle.std.specs.Result.{is_ok}
 use Rattle.std.proofs.lemmas.List.FromFn.{map-range_with_len_more}
 use Rattle.gd_replies.specs.Days.{bound_row}
 use Rattle.gd_replies.specs.declared.reply.Reply.{Reply}

@@ -1,0 +1,113 @@
+//! What a row is printed from.
+
+ghost use Rattle.std.specs.Prelude.{Some};
+ghost use Rattle.gd_replies.specs.Calls.{refusal_detail};
+ghost use Rattle.gd_replies.specs.Lines.{line, spread_field};
+ghost use Rattle.gd_replies.specs.Rows.{field_text, row_fields};
+
+use crate::call::Call;
+use gd_certificate::CertFault;
+use gd_machine::Refusal;
+use gd_text_part::TextFault;
+use gd_units::Name;
+use std::fmt;
+
+/// A field of a row.
+#[derive(Clone, Copy)]
+pub(crate) enum Field {
+    Word(&'static str),
+    Number(u64),
+    Signed(i128),
+    Spread(SpreadField),
+    Name(Name),
+    Call(Call),
+    Refusal(Refusal),
+    Detail(DetailField),
+    Certificate(CertFault),
+}
+
+/// The fields of a row, of which the first is its kind. Those behind them are empty.
+#[derive(Clone, Copy)]
+pub(crate) enum Row {
+    /// A fault prints three fields itself.
+    Fault(TextFault),
+    One(&'static str),
+    Two(&'static str, Field),
+    Three(&'static str, Field, Field),
+    Four(&'static str, Field, Field, Field),
+    Five(&'static str, Field, Field, Field, Field),
+    Six(&'static str, Field, Field, Field, Field, Field),
+    Seven(&'static str, Field, Field, Field, Field, Field, Field),
+    Eight(&'static str, Field, Field, Field, Field, Field, Field, Field),
+}
+
+/// A word of the spread as a field, which is empty where the word is 0.
+#[derive(Clone, Copy)]
+pub(crate) struct SpreadField(pub(crate) i128);
+
+impl fmt::Display for SpreadField {
+    ghost output = { λ s. Some (spread_field s.0) };
+
+    fn fmt<W: fmt::Write>(&self, f: &mut fmt::Formatter<W>) -> fmt::Result {
+        let spread = self.0;
+        if spread == 0 {
+            f.write_str("")
+        } else {
+            write!(f, "{spread}")
+        }
+    }
+}
+
+/// What is told beside a refusal, as a field: the current round, or why a set is no cut.
+#[derive(Clone, Copy)]
+pub(crate) struct DetailField(pub(crate) Refusal);
+
+impl fmt::Display for DetailField {
+    ghost output = { λ d. Some (refusal_detail d.0) };
+
+    fn fmt<W: fmt::Write>(&self, f: &mut fmt::Formatter<W>) -> fmt::Result {
+        match self.0 {
+            Refusal::StaleRound(round) => write!(f, "{round}"),
+            Refusal::NoCutProof(fault) => write!(f, "{fault}"),
+            _ => f.write_str(""),
+        }
+    }
+}
+
+impl fmt::Display for Field {
+    ghost output = { λ x. Some (field_text x) };
+
+    fn fmt<W: fmt::Write>(&self, f: &mut fmt::Formatter<W>) -> fmt::Result {
+        match self {
+            Field::Word(word) => f.write_str(word),
+            Field::Number(number) => number.fmt(f),
+            Field::Signed(number) => number.fmt(f),
+            Field::Spread(spread) => spread.fmt(f),
+            Field::Name(name) => name.fmt(f),
+            Field::Call(call) => call.fmt(f),
+            Field::Refusal(refusal) => refusal.fmt(f),
+            Field::Detail(detail) => detail.fmt(f),
+            Field::Certificate(fault) => fault.fmt(f),
+        }
+    }
+}
+
+impl fmt::Display for Row {
+    ghost output = { λ r. Some (line (row_fields r)) };
+
+    fn fmt<W: fmt::Write>(&self, f: &mut fmt::Formatter<W>) -> fmt::Result {
+        match self {
+            Row::Fault(fault) => write!(f, "fault,{fault},,,,\n"),
+            Row::One(kind) => write!(f, "{kind},,,,,,,\n"),
+            Row::Two(kind, a) => write!(f, "{kind},{a},,,,,,\n"),
+            Row::Three(kind, a, b) => write!(f, "{kind},{a},{b},,,,,\n"),
+            Row::Four(kind, a, b, c) => write!(f, "{kind},{a},{b},{c},,,,\n"),
+            Row::Five(kind, a, b, c, d) => write!(f, "{kind},{a},{b},{c},{d},,,\n"),
+            Row::Six(kind, a, b, c, d, e) => write!(f, "{kind},{a},{b},{c},{d},{e},,\n"),
+            Row::Seven(kind, a, b, c, d, e, g) => { write!(f, "{kind},{a},{b},{c},{d},{e},{g},\n") }
+            Row::Eight(kind, a, b, c, d, e, g, h) => {
+                write!(f, "{kind},{a},{b},{c},{d},{e},{g},{h}\n")
+            }
+        }
+    }
+}
