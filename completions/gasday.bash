@@ -21,16 +21,18 @@ _gasday() {
         *[\<\>]*) _gasday_files; return ;;
     esac
     if [ "$COMP_CWORD" -eq 1 ]; then
-        _gasday_words 'check solve calendar day office audit migrate help --help'
+        _gasday_words 'check solve calendar day office audit migrate help --help --version'
         return
     fi
     case ${COMP_WORDS[1]}:$COMP_CWORD in
         help:2) _gasday_words 'check solve calendar day office audit migrate' ;;
+        help:*) ;;
         check:2) _gasday_words 'allowed best cut --help' ;;
-        solve:2 | calendar:2 | office:2) _gasday_words '--help' ;;
-        day:2) _gasday_words '--archive --help' ;;
-        day:3) [ "$before" != --archive ] || _gasday_files ;;
-        audit:2 | migrate:2)
+        day:*)
+            [ "$before" = --archive ] || _gasday_words '--archive --help'
+            _gasday_files
+            ;;
+        check:* | solve:* | calendar:* | office:* | audit:2 | migrate:2)
             _gasday_words '--help'
             _gasday_files
             ;;

@@ -21,5 +21,7 @@ complete -c gasday -n '__gasday_behind check' -a best -d 'Prices show that no al
 complete -c gasday -n '__gasday_behind check' -a cut -d 'A set shows that no schedule is allowed'
 complete -c gasday -n '__fish_seen_subcommand_from day' -l archive -r -F -d 'Keep what is published in a file'
 complete -c gasday -n '__gasday_behind audit migrate' -F
+complete -c gasday -n '__fish_seen_subcommand_from check solve calendar day office' -F
 complete -c gasday -n __fish_use_subcommand -l help -d 'Print help'
+complete -c gasday -n __fish_use_subcommand -l version -d 'Print the version'
 complete -c gasday -n '__gasday_behind check solve calendar day office audit migrate' -l help -d 'Print help'

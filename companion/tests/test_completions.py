@@ -24,28 +24,29 @@ class Completing(unittest.TestCase):
 
     def test_commands(self):
         commands = ["audit", "calendar", "check", "day", "migrate", "office", "solve"]
-        self.assertEqual(self.offers(""), sorted(["--help", "help", *commands]))
+        self.assertEqual(self.offers(""), sorted(["--help", "--version", "help", *commands]))
         self.assertEqual(self.offers("help", ""), commands)
         self.assertEqual(self.offers("c"), ["calendar", "check"])
-        self.assertEqual(self.offers("-"), ["--help"])
+        self.assertEqual(self.offers("-"), ["--help", "--version"])
         self.assertEqual(self.offers("x"), [])
+        self.assertEqual(self.offers("help", "solve", ""), [])
 
     def test_checks(self):
         self.assertEqual(self.offers("check", ""), ["--help", "allowed", "best", "cut"])
         self.assertEqual(self.offers("check", "b"), ["best"])
-        self.assertEqual(self.offers("check", "best", ""), [])
+        self.assertEqual(self.offers("check", "best", ""), ["--help", *FILES])
 
-    def test_commands_that_take_no_word(self):
+    def test_commands_that_take_texts(self):
         for command in ("solve", "calendar", "office"):
-            self.assertEqual(self.offers(command, ""), ["--help"])
-            self.assertEqual(self.offers(command, "--help", ""), [])
+            self.assertEqual(self.offers(command, ""), ["--help", *FILES])
+            self.assertEqual(self.offers(command, "text.csv", "o"), ["other.db"])
 
     def test_the_archive_of_a_day(self):
-        self.assertEqual(self.offers("day", ""), ["--archive", "--help"])
+        self.assertEqual(self.offers("day", ""), ["--archive", "--help", *FILES])
         self.assertEqual(self.offers("day", "--a"), ["--archive"])
         self.assertEqual(self.offers("day", "--archive", ""), FILES)
         self.assertEqual(self.offers("day", "--archive", "a"), ["a book.db"])
-        self.assertEqual(self.offers("day", "--archive", "a book.db", ""), [])
+        self.assertEqual(self.offers("day", "--archive", "other.db", "t"), ["text.csv"])
 
     def test_the_file_of_audit_and_migrate(self):
         for command in ("audit", "migrate"):

@@ -1,9 +1,10 @@
 //! Which words are taken, and what the texts say.
 
-use gasday_words::{Command, Order, UsageFault, order_of};
+use gasday_words::{Command, Order, Request, UsageFault, request_of};
+use std::alloc::AllocError;
 use std::test::Fail;
 
-const LINES: [(&[&str], &str); 48] = [
+const LINES: [(&[&str], &str); 52] = [
     (&[], "allowed"),
     (&["gasday"], "allowed"),
     (&["gasday", "check", "allowed"], "allowed"),
@@ -15,22 +16,32 @@ const LINES: [(&[&str], &str); 48] = [
     (&["gasday", "--help"], "help"),
     (&["gasday", "-h"], "help"),
     (&["gasday", "help"], "help"),
+    (&["gasday", "--version"], "version"),
+    (&["gasday", "-V"], "version"),
+    (&["gasday", "solve", "--version"], "usage"),
+    (&["gasday", "solve", "-h"], "help of solve"),
     (&["gasday", "help", "check"], "help"),
     (&["gasday", "check", "--help"], "help"),
     (&["gasday", "solve", "--help"], "help of solve"),
     (&["gasday", "calendar", "--help"], "help of calendar"),
-    (&["gasday", "solve", "best"], "usage"),
+    (&["gasday", "solve", "best"], "solve of best"),
     (&["gasday", "solve", "--nonsense"], "usage"),
     (&["gasday", "check", "solve"], "usage"),
     (&["gasday", "Solve"], "usage"),
-    (&["gasday", "calendar", "2026-03-08"], "usage"),
+    (
+        &["gasday", "calendar", "a.csv", "b.csv"],
+        "calendar of a.csv and b.csv",
+    ),
     (&["gasday", "check", "calendar"], "usage"),
     (&["gasday", "day"], "day"),
     (&["gasday", "day", "--help"], "help of day"),
     (&["gasday", "office"], "office"),
     (&["gasday", "office", "--help"], "help of office"),
-    (&["gasday", "day", "2026-03-08"], "usage"),
-    (&["gasday", "office", "2"], "usage"),
+    (
+        &["gasday", "day", "a.csv", "--archive", "a.db", "b.csv"],
+        "archived day of a.csv and b.csv",
+    ),
+    (&["gasday", "office", "--", "--a.csv"], "office of --a.csv"),
     (&["gasday", "day", "--archive", "a.db"], "archived day"),
     (&["gasday", "day", "--archive=a.db"], "archived day"),
     (&["gasday", "day", "--archive"], "usage"),
@@ -48,7 +59,10 @@ const LINES: [(&[&str], &str); 48] = [
     (&["gasday", "allowed"], "usage"),
     (&["gasday", "check"], "usage"),
     (&["gasday", "check", "all"], "usage"),
-    (&["gasday", "check", "allowed", "allowed"], "usage"),
+    (
+        &["gasday", "check", "allowed", "allowed"],
+        "allowed of allowed",
+    ),
     (&["gasday", "--nonsense"], "usage"),
     (&["gasday", "check", "--nonsense"], "usage"),
     (&["gasday", "check", "allowed", "--nonsense"], "usage"),
@@ -77,14 +91,33 @@ fn order_name(order: Order<'_>) -> &'static str {
     }
 }
 
-/// The kind of the answer, with its text, or None where memory is short.
-fn told(rt: &HostRuntime, words: &[&str]) -> Option<(&'static str, String)> {
-    match order_of(rt.alloc(), words) {
-        Ok(order) => Some((order_name(order), String::new(rt.alloc()))),
-        Err(UsageFault::Help(text)) => Some(("help", text)),
-        Err(UsageFault::Usage(text)) => Some(("usage", text)),
-        Err(UsageFault::OutOfMemory) => None,
+/// An order and the files that it reads, in words.
+fn request_name(rt: &HostRuntime, request: &Request<'_>) -> Result<String, AllocError> {
+    let order = order_name(request.order);
+    match request.texts.as_slice() {
+        [] => String::from_str(rt.alloc(), order),
+        [text] => format!(in rt.alloc(); "{order} of {text}"),
+        [text, another] => format!(in rt.alloc(); "{order} of {text} and {another}"),
+        _ => format!(in rt.alloc(); "{order} of many"),
     }
+}
+
+/// The kind of the answer, with its text, or None where memory is short.
+fn told(rt: &HostRuntime, words: &[&str]) -> Option<(String, String)> {
+    let alloc = rt.alloc();
+    let (kind, text) = match request_of(alloc, words) {
+        Ok(request) => return Some((request_name(rt, &request).ok()?, String::new(alloc))),
+        Err(UsageFault::Help(text)) => ("help", text),
+        Err(UsageFault::Version(text)) => ("version", text),
+        Err(UsageFault::Usage(text)) => ("usage", text),
+        Err(UsageFault::OutOfMemory) => return None,
+    };
+    Some((String::from_str(alloc, kind).ok()?, text))
+}
+
+/// Whether an answer is the one that is wanted. Of help it is told by its text whose help it is.
+fn is_wanted(wanted: &str, answer: &str) -> bool {
+    answer == wanted || answer == "help" && wanted.starts_with(answer)
 }
 
 fn reads_well(answer: &str, text: &str) -> bool {
@@ -113,6 +146,7 @@ fn reads_well(answer: &str, text: &str) -> bool {
                 && text.contains("\n  gasday check allowed < examples/two-lines.csv\n")
                 && text.ends_with('\n')
         }
+        "version" => text.starts_with("gasday 1.") && text.ends_with('\n'),
         "usage" => text.starts_with("error: ") && text.ends_with(" try '--help'.\n"),
         _ => text.is_empty(),
     }
@@ -122,7 +156,10 @@ fn reads_well(answer: &str, text: &str) -> bool {
 fn each_line_has_its_answer(rt: HostRuntime) -> Result<(), Fail> {
     for (words, wanted) in LINES {
         let (answer, text) = told(&rt, words).ok_or("out of memory")?;
-        assert!(rt; wanted.starts_with(answer), "at {words:?}");
+        assert!(rt;
+            is_wanted(wanted, answer.as_str()),
+            "at {words:?}: {answer}"
+        );
         assert!(rt; reads_well(wanted, text.as_str()), "at {words:?}: {text}");
     }
     Ok(())
@@ -131,7 +168,7 @@ fn each_line_has_its_answer(rt: HostRuntime) -> Result<(), Fail> {
 #[test]
 fn a_fault_is_shown_by_its_text(rt: HostRuntime) -> Result<(), Fail> {
     let alloc = rt.alloc();
-    let Err(fault) = order_of(alloc, &["gasday", "check", "all"]) else {
+    let Err(fault) = request_of(alloc, &["gasday", "check", "all"]) else {
         return Err(Fail::from("there is no such check"));
     };
     let shown = fault.to_string(alloc)?;

@@ -1,11 +1,13 @@
 -- The command line of the program, and what its words mean.
-use Rattle.std.specs.Prelude.{true, List, [], ◌∷◌, Option, Some, None, option_map, drop, codes, if◌then◌else◌}
+use Rattle.std.specs.Prelude.{true, List, [], ◌∷◌, Option, Some, None, option_map, unwrap_or, drop, codes, if◌then◌else◌}
 use Rattle.std.specs.Str.{bytes_eq}
 use Rattle.gasday_words.specs.declared.order.Command.{Command}
 use Rattle.gasday_words.specs.declared.order.Command.TheVariants.{CheckAllowed, CheckBest, CheckCut, Solve, Calendar, Day, Office}
 use Rattle.gasday_words.specs.Ordered as ordered
-use Rattle.gasday_words.specs.Ordered.{Ordered}
-use Rattle.clap.specs.Words.{App, Row, Rule, Text, first_of, new_app, new_rule, subcommand_of, with_rule, with_subcommand}
+use Rattle.gasday_words.specs.Ordered.{Ordered, Requested, without_texts}
+use Rattle.clap.specs.Lexer.{usize_max}
+use Rattle.clap.specs.Words.{App, Row, Rule, Text, all_of, first_of, new_app, new_rule, subcommand_of, with_rule, with_subcommand}
+use Rattle.clap.specs.declared.builder.action.ArgAction.TheVariants.{Append}
 
 -- ---- the command line
 
@@ -17,29 +19,37 @@ what = record (new_rule (codes "what")) { value_names = 1; required = true }
 abbrev pub file : Rule
 file = record (new_rule (codes "file")) { value_names = 1; required = true }
 
+-- TEXT, any number of words
+abbrev pub texts : Rule
+texts = record (new_rule (codes "text")) {
+  value_names = 1;
+  action = Some Append;
+  range = Some (record { start_inclusive = 0; end_inclusive = usize_max });
+}
+
 -- `--archive FILE`, which may be left out
 abbrev pub archive : Rule
 archive = record (new_rule (codes "archive")) { value_names = 1; long = Some (codes "archive") }
 
--- `check WHAT`
+-- `check WHAT [TEXT]..`
 abbrev pub check : App
-check = with_rule (new_app (codes "check")) what
+check = with_rule (with_rule (new_app (codes "check")) what) texts
 
--- `solve`
+-- `solve [TEXT]..`
 abbrev pub solve : App
-solve = new_app (codes "solve")
+solve = with_rule (new_app (codes "solve")) texts
 
--- `calendar`
+-- `calendar [TEXT]..`
 abbrev pub calendar : App
-calendar = new_app (codes "calendar")
+calendar = with_rule (new_app (codes "calendar")) texts
 
--- `day [--archive FILE]`
+-- `day [--archive FILE] [TEXT]..`
 abbrev pub day : App
-day = with_rule (new_app (codes "day")) archive
+day = with_rule (with_rule (new_app (codes "day")) archive) texts
 
--- `office`
+-- `office [TEXT]..`
 abbrev pub office : App
-office = new_app (codes "office")
+office = with_rule (new_app (codes "office")) texts
 
 -- `audit FILE`
 abbrev pub audit : App
@@ -49,9 +59,13 @@ audit = with_rule (new_app (codes "audit")) file
 abbrev pub migrate : App
 migrate = with_rule (new_app (codes "migrate")) file
 
+-- a command that can tell its version
+abbrev pub with_version : App → App
+with_version a = record a { top = record a.top { has_version = true } }
+
 -- the program before it has commands
 abbrev pub bare : App
-bare = new_app (codes "gasday")
+bare = with_version (new_app (codes "gasday"))
 
 -- the program with the commands that take a text
 abbrev pub with_texts : App
@@ -91,24 +105,32 @@ order_from name given =
     else if bytes_eq name (codes "migrate") then option_map ordered.Migrate (first_of (codes "file") given)
     else None
 
--- the order of the subcommand that was met: with none it is `check allowed`
-abbrev pub order_in : Option (Text × List Row) → Option Ordered
-order_in None = Some (ordered.Text CheckAllowed)
-order_in (Some p) = order_from p.0 p.1
+-- the texts that a subcommand was given
+abbrev pub texts_in : List Row → List Text
+texts_in given = unwrap_or (all_of (codes "text") given) []
+
+-- the request of a subcommand's name and of what it was given
+abbrev pub request_from : Text → List Row → Option Requested
+request_from name given =
+    option_map (λ o. record { order = o; texts = texts_in given }) (order_from name given)
+
+-- the request of the subcommand that was met: with none it is `check allowed`
+abbrev pub request_in : Option (Text × List Row) → Option Requested
+request_in None = Some (without_texts (ordered.Text CheckAllowed))
+request_in (Some p) = request_from p.0 p.1
 
 -- what the words mean, by clap's meaning of the command line
-abbrev pub meaning_of : List Text → Option Ordered
-meaning_of words = order_in (subcommand_of gasday words)
+abbrev pub meaning_of : List Text → Option Requested
+meaning_of words = request_in (subcommand_of gasday words)
 
 -- the words after the program's own name
 abbrev pub arguments : List Text → List Text
 arguments words = drop 1 words
 
--- the forms of the program that name no file: the words behind its name, and the command that they are
+-- the commands that answer a text: the words behind the program's name, and the command that they are
 abbrev pub forms : List (List Text × Command)
 forms =
-    ([], CheckAllowed)
-    ∷ (codes "check" ∷ codes "allowed" ∷ [], CheckAllowed)
+    (codes "check" ∷ codes "allowed" ∷ [], CheckAllowed)
     ∷ (codes "check" ∷ codes "best" ∷ [], CheckBest)
     ∷ (codes "check" ∷ codes "cut" ∷ [], CheckCut)
     ∷ (codes "solve" ∷ [], Solve)
@@ -117,7 +139,7 @@ forms =
     ∷ (codes "office" ∷ [], Office)
     ∷ []
 
--- the forms of the program that name this file: the words behind its name, and the order that they are
+-- the forms of the program that name this archive: the words behind its name, and the order that they are
 abbrev pub forms_with : Text → List (List Text × Ordered)
 forms_with file =
     (codes "day" ∷ codes "--archive" ∷ file ∷ [], ordered.ArchivedDay file)
@@ -129,6 +151,7 @@ forms_with file =
 abbrev pub helps : List (List Text)
 helps =
     (codes "--help" ∷ [])
+    ∷ (codes "-h" ∷ [])
     ∷ (codes "check" ∷ codes "--help" ∷ [])
     ∷ (codes "solve" ∷ codes "--help" ∷ [])
     ∷ (codes "calendar" ∷ codes "--help" ∷ [])
@@ -137,3 +160,7 @@ helps =
     ∷ (codes "audit" ∷ codes "--help" ∷ [])
     ∷ (codes "migrate" ∷ codes "--help" ∷ [])
     ∷ []
+
+-- the forms that ask for the version
+abbrev pub versions : List (List Text)
+versions = (codes "--version" ∷ []) ∷ (codes "-V" ∷ []) ∷ []

@@ -1,8 +1,9 @@
--- What a clause sees of an order.
-use Rattle.std.specs.Prelude.{ℕ, List}
+-- What a clause sees of a request.
+use Rattle.std.specs.Prelude.{ℕ, List, [], map}
 use Rattle.gasday_words.specs.declared.order.Command.{Command}
 use Rattle.gasday_words.specs.declared.order.Order.{Order}
 use Rattle.gasday_words.specs.declared.order.Order.TheVariants as order
+use Rattle.gasday_words.specs.declared.order.Request.{Request}
 
 -- an order, with its FILE as bytes
 pub data Ordered : Type 0 where
@@ -11,9 +12,22 @@ pub data Ordered : Type 0 where
   Audit : List ℕ → Ordered
   Migrate : List ℕ → Ordered
 
--- an order as it is seen by a clause
+-- an order as a clause sees it
 abbrev pub seen : Order → Ordered
 seen (order.Text command) = Text command
 seen (order.ArchivedDay file) = ArchivedDay file.now
 seen (order.Audit file) = Audit file.now
 seen (order.Migrate file) = Migrate file.now
+
+-- an order, with the files that make up its text
+pub record Requested : Type 0 where
+  pub order : Ordered
+  pub texts : List (List ℕ)
+
+-- an order that names no texts
+abbrev pub without_texts : Ordered → Requested
+without_texts o = record { order = o; texts = [] }
+
+-- a request as a clause sees it
+abbrev pub requested : Request → Requested
+requested r = record { order = seen r.order; texts = map (λ t. t.now) r.texts.items }

@@ -1,69 +1,114 @@
 -- What is told of words.
-use Rattle.std.specs.Prelude.{All, ◌≡◌, ◌≢◌, ◌==◌, ℕ, false, List, [], ◌∷◌, Option, None, Result, MatchResult, ⊤}
+use Rattle.std.specs.Prelude.{All, ◌≡◌, ◌≢◌, ◌==◌, ◌++◌, ℕ, false, List, [], ◌∷◌, Option, None, Result, MatchResult, ⊤, ◌⊎◌}
 use Rattle.clap.specs.Words.{IsAmong, Kinds, Text, fault_of}
 use Rattle.clap.specs.declared.error.kind.ErrorKind.{ErrorKind}
 use Rattle.clap.specs.declared.error.kind.ErrorKind.TheVariants as kind
-use Rattle.gasday_words.specs.declared.order.Order.{Order}
+use Rattle.gasday_words.specs.declared.order.Command.{Command}
+use Rattle.gasday_words.specs.declared.order.Command.TheVariants as command
+use Rattle.gasday_words.specs.declared.order.Request.{Request}
 use Rattle.gasday_words.specs.declared.fault.UsageFault.{UsageFault}
-use Rattle.gasday_words.specs.declared.fault.UsageFault.TheVariants.{Help, Usage, OutOfMemory}
-use Rattle.gasday_words.specs.Ordered.{Ordered, Text as OfText, seen}
-use Rattle.gasday_words.specs.Meaning.{gasday, meaning_of, arguments, forms, forms_with, helps}
+use Rattle.gasday_words.specs.declared.fault.UsageFault.TheVariants.{Help, Version, Usage, OutOfMemory}
+use Rattle.gasday_words.specs.Ordered as ordered
+use Rattle.gasday_words.specs.Ordered.{Requested, requested, without_texts}
+use Rattle.gasday_words.specs.Meaning.{gasday, meaning_of, arguments, forms, forms_with, helps, versions}
 
--- what is left of an order where clap finds these kinds of fault in the words
-abbrev pub unless_at_fault : Kinds → Option Ordered → Option Ordered
+-- what is left of a request where clap finds these kinds of fault in the words
+abbrev pub unless_at_fault : Kinds → Option Requested → Option Requested
 unless_at_fault [] meaning = meaning
 unless_at_fault (k ∷ ks) meaning = None
 
--- the order that the words name: clap finds no fault in them, and they mean one
-abbrev pub named : List Text → Option Ordered
+-- the request that the words name: clap finds no fault in them, and they mean one
+abbrev pub named : List Text → Option Requested
 named words = unless_at_fault (fault_of gasday words) (meaning_of words)
 
--- Help is told only where it is asked for, and a usage fault only where it is not all that is asked
--- for. Neither is told where the words name an order.
+-- Help and the version are told only where they are asked for, and a usage fault only where neither is all that is asked
+-- for. None is told where the words name an order.
 abbrev pub IsTold : List Text → UsageFault → Type 0
 IsTold words (Help text) = (named words ≡ None) × IsAmong kind.DisplayHelp (fault_of gasday words)
-IsTold words (Usage text) = (named words ≡ None) × (fault_of gasday words ≢ kind.DisplayHelp ∷ [])
+IsTold words (Version text) = (named words ≡ None) × IsAmong kind.DisplayVersion (fault_of gasday words)
+IsTold words (Usage text) =
+    (named words ≡ None) × (fault_of gasday words ≢ kind.DisplayHelp ∷ [])
+    × (fault_of gasday words ≢ kind.DisplayVersion ∷ [])
 IsTold words OutOfMemory = ⊤
 
 -- what is told of a refusal by clap, of this kind
 abbrev pub IsTelling : ErrorKind → UsageFault → Type 0
 IsTelling k (Help text) = k ≡ kind.DisplayHelp
-IsTelling k (Usage text) = (k ≢ kind.DisplayHelp) × (k ≢ kind.OutOfMemory)
+IsTelling k (Version text) = k ≡ kind.DisplayVersion
+IsTelling k (Usage text) = (k ≢ kind.DisplayHelp) × (k ≢ kind.DisplayVersion) × (k ≢ kind.OutOfMemory)
 IsTelling k OutOfMemory = ⊤
 
 -- a usage fault, but for want of memory
 abbrev pub IsUsage : UsageFault → Type 0
-IsUsage (Help text) = ⊥
-IsUsage _ = ⊤
+IsUsage (Usage text) = ⊤
+IsUsage OutOfMemory = ⊤
+IsUsage _ = ⊥
+
+-- why there is no request: the matches name none, which is a usage fault, or memory is short
+abbrev pub IsNoRequest : Option Requested → UsageFault → Type 0
+IsNoRequest meaning fault = (fault ≡ OutOfMemory) ⊎ ((meaning ≡ None) × IsUsage fault)
 
 -- help, but for want of memory
 abbrev pub IsHelpFault : UsageFault → Type 0
-IsHelpFault (Usage text) = ⊥
-IsHelpFault _ = ⊤
+IsHelpFault (Help text) = ⊤
+IsHelpFault OutOfMemory = ⊤
+IsHelpFault _ = ⊥
 
--- the answer is this order, but for want of memory
-abbrev pub IsOrder : Ordered → Result Order UsageFault → Type 0
-IsOrder m r = MatchResult r (λ o. seen o ≡ m) (λ e. e ≡ OutOfMemory)
+-- the version, but for want of memory
+abbrev pub IsVersionFault : UsageFault → Type 0
+IsVersionFault (Version text) = ⊤
+IsVersionFault OutOfMemory = ⊤
+IsVersionFault _ = ⊥
+
+-- the answer is this request, but for want of memory
+abbrev pub IsRequest : Requested → Result Request UsageFault → Type 0
+IsRequest m r = MatchResult r (λ o. requested o ≡ m) (λ e. e ≡ OutOfMemory)
 
 -- the answer is help, but for want of memory
-abbrev pub IsHelp : Result Order UsageFault → Type 0
+abbrev pub IsHelp : Result Request UsageFault → Type 0
 IsHelp r = MatchResult r (λ _. ⊥) IsHelpFault
 
--- words of each form of the program that names no file are taken as its command
-abbrev pub TakesForms : List Text → Result Order UsageFault → Type 0
-TakesForms words r = All (λ form. arguments words ≡ form.0 → IsOrder (OfText form.1) r) forms
+-- the answer is the version, but for want of memory
+abbrev pub IsVersion : Result Request UsageFault → Type 0
+IsVersion r = MatchResult r (λ _. ⊥) IsVersionFault
+
+-- words of each command that answers a text, with these words behind them, are taken as that command over these texts
+abbrev pub TakesForm : List Text → List Text → Result Request UsageFault → List Text × Command → Type 0
+TakesForm words texts r form =
+    arguments words ≡ form.0 ++ texts → IsRequest (record { order = ordered.Text form.1; texts = texts }) r
+
+-- With no words behind the program's name it is `check allowed`, and words of each command that answers a text are taken as
+-- that command, over standard input.
+abbrev pub TakesForms : List Text → Result Request UsageFault → Type 0
+TakesForms words r =
+    (arguments words ≡ [] → IsRequest (without_texts (ordered.Text command.CheckAllowed)) r) × All (TakesForm words [] r) forms
 
 -- `-`, as a byte
 abbrev pub hyphen : ℕ
 hyphen = 45
 
--- words of each form that names a file are taken as its order, whatever the file: a name that isn't
+-- What is said of one file or of two, whatever their names are: none is empty, and none begins with `-`.
+abbrev pub OfOneOrTwo : (List Text → Type 0) → Type 0
+OfOneOrTwo says =
+    (a b : ℕ) (rest others : List ℕ) → (a == hyphen) ≡ false → (b == hyphen) ≡ false
+    → says ((a ∷ rest) ∷ []) × says ((a ∷ rest) ∷ (b ∷ others) ∷ [])
+
+-- words of each command that answers a text, with the names of one or two files behind them, are taken as that command over
+-- these files
+abbrev pub TakesTexts : List Text → Result Request UsageFault → Type 0
+TakesTexts words r = OfOneOrTwo (λ texts. All (TakesForm words texts r) forms)
+
+-- words of each form that names an archive are taken as its order, whatever the file: a name that isn't
 -- empty, and doesn't begin with `-`
-abbrev pub TakesFiles : List Text → Result Order UsageFault → Type 0
+abbrev pub TakesFiles : List Text → Result Request UsageFault → Type 0
 TakesFiles words r =
     (b : ℕ) (rest : List ℕ) → (b == hyphen) ≡ false
-    → All (λ form. arguments words ≡ form.0 → IsOrder form.1 r) (forms_with (b ∷ rest))
+    → All (λ form. arguments words ≡ form.0 → IsRequest (without_texts form.1) r) (forms_with (b ∷ rest))
 
 -- words of each form that asks for help are answered by help
-abbrev pub TakesHelps : List Text → Result Order UsageFault → Type 0
+abbrev pub TakesHelps : List Text → Result Request UsageFault → Type 0
 TakesHelps words r = All (λ form. arguments words ≡ form → IsHelp r) helps
+
+-- words of each form that asks for the version are answered by the version
+abbrev pub TakesVersions : List Text → Result Request UsageFault → Type 0
+TakesVersions words r = All (λ form. arguments words ≡ form → IsVersion r) versions

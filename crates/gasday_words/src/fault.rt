@@ -13,6 +13,9 @@ pub enum UsageFault {
     /// The words ask for help, which this is.
     #[error("{0}")]
     Help(String),
+    /// The words ask for the version, which this is.
+    #[error("{0}")]
+    Version(String),
     /// The words are at fault. The text says how, and how to get help.
     #[error("{0}")]
     Usage(String),
@@ -31,6 +34,7 @@ pub(crate) fn fault_of(alloc: Global, error: &clap::Error) -> UsageFault
     }
     match error.to_string(alloc) {
         Ok(text) if matches!(kind, ErrorKind::DisplayHelp) => UsageFault::Help(text),
+        Ok(text) if matches!(kind, ErrorKind::DisplayVersion) => UsageFault::Version(text),
         Ok(text) => UsageFault::Usage(text),
         Err(_) => UsageFault::OutOfMemory,
     }

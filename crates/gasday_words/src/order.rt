@@ -1,13 +1,14 @@
 //! The orders, and which of them the matches of the command line name.
 
-ghost use Rattle.std.specs.Prelude.{◌≡◌, option_map};
+ghost use Rattle.std.specs.Prelude.{◌≡◌, IfOk, map, option_map};
 ghost use Rattle.clap.specs.Words.{first_of, found_of, rows_of, subcommand_rows_of};
 ghost use Rattle.gasday_words.specs.Meaning as spec;
-ghost use Rattle.gasday_words.specs.Ordered.{seen};
+ghost use Rattle.gasday_words.specs.Ordered.{requested, seen};
 
 use clap::ArgMatches;
+use std::alloc::{AllocError, Global};
 
-/// A command that answers a text from standard input.
+/// A command that answers a text.
 #[derive(Clone, Copy, Debug, PartialEq, Eq)]
 pub enum Command {
     /// Tells whether the schedule behind a question is allowed, and its total by class.
@@ -37,6 +38,14 @@ pub enum Order<'a> {
     Audit(&'a str),
     /// `migrate FILE`: brings an archive of version 1 to version 2.
     Migrate(&'a str),
+}
+
+/// An order, and the files that it reads.
+#[derive(Debug, Drop)]
+pub struct Request<'a> {
+    pub order: Order<'a>,
+    /// The files that make up the text, in order. Where there are none the text is read from standard input.
+    pub texts: Vec<&'a str>,
 }
 
 /// The check that the word after `check` names.
@@ -84,14 +93,45 @@ fn order_from<'a>(name: &str, given: &ArgMatches<'a>) -> Option<Order<'a>>
     }
 }
 
-/// The order that the matches name. Where they name no subcommand it is `check allowed`.
-pub(crate) fn order_in<'a>(matches: &ArgMatches<'a>) -> Option<Order<'a>>
-    ensures { option_map seen result ≡ spec.order_in (subcommand_rows_of matches.now) }
+/// The files that were given as texts.
+fn texts_given<'a>(alloc: Global, given: &ArgMatches<'a>) -> Result<Vec<&'a str>, AllocError>
+    ensures { IfOk result (λ v. map (λ t. t.now) v.items ≡ spec.texts_in (rows_of (found_of given.now))) }
+{
+    match given.get_strs("text") {
+        Some(texts) => Vec::from_slice(alloc, texts),
+        None => Ok(Vec::new(alloc)),
+    }
+}
+
+/// The request of a subcommand's name and of what it was given.
+fn request_from<'a>(
+    alloc: Global,
+    name: &str,
+    given: &ArgMatches<'a>,
+) -> Result<Option<Request<'a>>, AllocError>
+    ensures { IfOk result
+        (λ r. option_map requested r ≡ spec.request_from name.now (rows_of (found_of given.now))) }
+{
+    let Some(order) = order_from(name, given) else {
+        return Ok(None);
+    };
+    let texts = texts_given(alloc, given)?;
+    Ok(Some(Request { order, texts }))
+}
+
+/// The request that the matches name. Where they name no subcommand it is `check allowed` over standard input.
+pub(crate) fn request_in<'a>(
+    alloc: Global,
+    matches: &ArgMatches<'a>,
+) -> Result<Option<Request<'a>>, AllocError>
+    ensures { IfOk result (λ r. option_map requested r ≡ spec.request_in (subcommand_rows_of matches.now)) }
 {
     let Some((name, given)) = matches.subcommand() else {
-        return Some(Order::Text(Command::CheckAllowed));
+        let order = Order::Text(Command::CheckAllowed);
+        let texts = Vec::new(alloc);
+        return Ok(Some(Request { order, texts }));
     };
-    order_from(name, given)
+    request_from(alloc, name, given)
 }
 
 /// The word after `check`, or nothing where there is none.

@@ -1,0 +1,43 @@
+use Rattle.std.proofs.Common.{map}
+use Rattle.gasday_words.proofs.Forms.{takes_files, takes_forms, takes_helps, takes_texts, takes_versions}
+use Rattle.gasday_words.proofs.words.request_of.Goals as goal
+
+pub returns-clause-forms : goal.returns-clause-forms
+returns-clause-forms g c = takes_forms (map g.S.AsStr.text c.args.words.now) c.request_by_clap.result (record {
+  meaning = c.request_by_clap.ensures.meaning;
+  faultless = c.request_by_clap.ensures.faultless;
+  taken = c.request_by_clap.ensures.taken;
+  faults = c.request_by_clap.ensures.faults;
+})
+
+pub returns-clause-texts : goal.returns-clause-texts
+returns-clause-texts g c = takes_texts (map g.S.AsStr.text c.args.words.now) c.request_by_clap.result (record {
+  meaning = c.request_by_clap.ensures.meaning;
+  faultless = c.request_by_clap.ensures.faultless;
+  taken = c.request_by_clap.ensures.taken;
+  faults = c.request_by_clap.ensures.faults;
+})
+
+pub returns-clause-files : goal.returns-clause-files
+returns-clause-files g c = takes_files (map g.S.AsStr.text c.args.words.now) c.request_by_clap.result (record {
+  meaning = c.request_by_clap.ensures.meaning;
+  faultless = c.request_by_clap.ensures.faultless;
+  taken = c.request_by_clap.ensures.taken;
+  faults = c.request_by_clap.ensures.faults;
+})
+
+pub returns-clause-helps : goal.returns-clause-helps
+returns-clause-helps g c = takes_helps (map g.S.AsStr.text c.args.words.now) c.request_by_clap.result (record {
+  meaning = c.request_by_clap.ensures.meaning;
+  faultless = c.request_by_clap.ensures.faultless;
+  taken = c.request_by_clap.ensures.taken;
+  faults = c.request_by_clap.ensures.faults;
+})
+
+pub returns-clause-versions : goal.returns-clause-versions
+returns-clause-versions g c = takes_versions (map g.S.AsStr.text c.args.words.now) c.request_by_clap.result (record {
+  meaning = c.request_by_clap.ensures.meaning;
+  faultless = c.request_by_clap.ensures.faultless;
+  taken = c.request_by_clap.ensures.taken;
+  faults = c.request_by_clap.ensures.faults;
+})
