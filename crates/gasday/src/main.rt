@@ -1,18 +1,108 @@
-//! `gasday`, the scheduling office of one gas pipeline: rows from standard input, rows to standard output.
+//! `gasday`, the scheduling office of one gas pipeline: rows from files or standard input, rows to standard output, and
+//! beside them what people are told on standard error.
 #![tactic(auto)]
 
 mod file;
+mod input;
+mod told;
 
 use crate::file::{ArchiveFile, close};
+use crate::input::{Input, joined};
+use crate::told::{tell_unread, tell_waiting, tell_why};
 use gasday_archive::run;
 use gasday_office::run_office;
-use gasday_words::{Command, Order, UsageFault, order_of};
+use gasday_words::{Command, Order, Request, UsageFault, request_of};
+use gd_heard::{Heard, Said};
+use gd_messages::Part;
 use std::process::ExitCode;
+use std::sync::Wait;
+use std::thread::Threads;
+use std::time::Clock;
 use std::{env, io};
+
+/// Runs an order over its text, and answers the exit status. The threads are the runtime's, which has them in `main` alone.
+fn run_over<T: Threads + Wait + Clock + Sync, W: io::Write>(
+    threads: &T,
+    rt: &HostRuntime,
+    order: Order<'_>,
+    reader: &mut Heard<Input<'_>>,
+    writer: &mut Said<W>,
+) -> u8 {
+    match order {
+        Order::Text(Command::Office) => run_office(threads, rt.alloc(), reader, writer),
+        order => {
+            let file = ArchiveFile { rt, order };
+            let ran = run(threads, rt.alloc(), order, reader, writer, file);
+            close(ran.archive);
+            ran.status
+        }
+    }
+}
+
+/// Answers a text, which these files make up if it has any, on standard output, and tells people why where the answer isn't
+/// good. Answers the exit status.
+fn answer<T: Threads + Wait + Clock + Sync>(
+    threads: &T,
+    rt: &HostRuntime,
+    order: Order<'_>,
+    parts: &[Part<'_>],
+    input: Input<'_>,
+) -> u8 {
+    let mut reader = Heard::new(rt.alloc(), input);
+    let mut writer = Said::new(rt.alloc(), io::writer(rt));
+    let status = run_over(threads, rt, order, &mut reader, &mut writer);
+    if status != 0 {
+        tell_why(rt, order, parts, &reader, &writer);
+    }
+    status
+}
+
+/// Carries out a request, and answers the exit status. Where a file can't be read nothing is answered.
+fn carry_out<T: Threads + Wait + Clock + Sync>(
+    threads: &T,
+    rt: &HostRuntime,
+    request: &Request<'_>,
+) -> u8 {
+    if request.texts.is_empty() {
+        tell_waiting(rt, request.order);
+        return answer(
+            threads,
+            rt,
+            request.order,
+            &[],
+            Input::Standard(rt.reader()),
+        );
+    }
+    match joined(rt, request.texts.as_slice()) {
+        Ok(text) => {
+            let input = Input::Files(text.bytes.as_slice());
+            answer(threads, rt, request.order, text.parts.as_slice(), input)
+        }
+        Err(unread) => {
+            tell_unread(rt, &unread);
+            2
+        }
+    }
+}
+
+/// Tells help or the version on standard output, and a usage fault on standard error. Answers the exit status.
+fn tell_usage(rt: &HostRuntime, fault: UsageFault) -> u8 {
+    match fault {
+        UsageFault::Help(text) | UsageFault::Version(text) => match rt.print(text) {
+            Ok(()) => 0,
+            Err(_) => 2,
+        },
+        UsageFault::Usage(text) => {
+            let _ = rt.eprint(text);
+            2
+        }
+        UsageFault::OutOfMemory => 2,
+    }
+}
 
 /// Reads the words of the command line, and carries out the order that they name.
 ///
-/// Help goes to standard output, a usage fault to standard error. Where there is no memory for the words nothing is printed.
+/// Where there is no memory for the words nothing is printed.
 fn main(rt: HostRuntime) -> ExitCode {
     let Ok(words) = env::args(&rt) else {
         return ExitCode::from(2);
@@ -20,28 +110,8 @@ fn main(rt: HostRuntime) -> ExitCode {
     let Ok(words) = words.collect::<Vec<String>>(rt.alloc()) else {
         return ExitCode::from(2);
     };
-    match order_of(rt.alloc(), words.as_slice()) {
-        Ok(Order::Text(Command::Office)) => {
-            let mut reader = rt.reader();
-            let mut writer = io::writer(&rt);
-            ExitCode::from(run_office(&rt, rt.alloc(), &mut reader, &mut writer))
-        }
-        Ok(order) => {
-            let mut reader = rt.reader();
-            let mut writer = io::writer(&rt);
-            let file = ArchiveFile { rt: &rt, order };
-            let ran = run(&rt, rt.alloc(), order, &mut reader, &mut writer, file);
-            close(ran.archive);
-            ExitCode::from(ran.status)
-        }
-        Err(UsageFault::Help(text)) => match rt.print(text) {
-            Ok(()) => ExitCode::SUCCESS,
-            Err(_) => ExitCode::from(2),
-        },
-        Err(UsageFault::Usage(text)) => {
-            let _ = rt.eprint(text);
-            ExitCode::from(2)
-        }
-        Err(UsageFault::OutOfMemory) => ExitCode::from(2),
-    }
+    ExitCode::from(match request_of(rt.alloc(), words.as_slice()) {
+        Ok(request) => carry_out(&rt, &rt, &request),
+        Err(fault) => tell_usage(&rt, fault),
+    })
 }

@@ -1,0 +1,84 @@
+//! What people are told on standard error, beside the rows of an answer.
+
+use crate::input::{Input, Unread};
+use gasday_words::{Command, Order};
+use gd_heard::{Heard, Said};
+use gd_messages::{Part, Source, message_of};
+use gd_text_part::Form;
+use std::io;
+use std::io::{ErrorKind, IsTerminal, Write};
+
+/// Tells a person something, where there is memory for it and somebody to tell.
+fn tell(rt: &HostRuntime, message: &str) {
+    if let Ok(line) = format!(in rt.alloc(); "gasday: {message}\n") {
+        let _ = rt.eprint(line);
+    }
+}
+
+/// Tells what went wrong with something.
+fn tell_error(rt: &HostRuntime, what: &str, error: &io::Error) {
+    if let Ok(message) = format!(in rt.alloc(); "can't {what}: {error}") {
+        tell(rt, message.as_str());
+    }
+}
+
+/// Tells that a file can't be read, and why.
+pub(crate) fn tell_unread(rt: &HostRuntime, unread: &Unread<'_>) {
+    let name = unread.name;
+    if let Ok(what) = format!(in rt.alloc(); "read {name}") {
+        tell_error(rt, what.as_str(), &unread.error);
+    }
+}
+
+/// How the text of an order is read. Who audits or migrates an archive reads none.
+fn form_of(order: Order<'_>) -> Option<Form> {
+    match order {
+        Order::Text(Command::CheckAllowed) => Some(Form::CheckAllowed),
+        Order::Text(Command::CheckBest) => Some(Form::CheckBest),
+        Order::Text(Command::CheckCut) => Some(Form::CheckCut),
+        Order::Text(Command::Solve) => Some(Form::Solve),
+        Order::Text(Command::Calendar) => Some(Form::Calendar),
+        Order::Text(Command::Day) | Order::ArchivedDay(_) => Some(Form::Day),
+        Order::Text(Command::Office) => Some(Form::Office),
+        Order::Audit(_) | Order::Migrate(_) => None,
+    }
+}
+
+/// Tells who sits at a terminal that a text is waited for.
+pub(crate) fn tell_waiting(rt: &HostRuntime, order: Order<'_>) {
+    if form_of(order).is_some() && rt.stdin().is_terminal() {
+        tell(
+            rt,
+            "the text is read from the terminal; end it with Ctrl-D, or name files",
+        );
+    }
+}
+
+/// Tells why an answer isn't good: what can't be read or written, or what its last row says. A reader that has gone, as
+/// behind `| head -1`, is told of by nothing.
+pub(crate) fn tell_why<W: Write>(
+    rt: &HostRuntime,
+    order: Order<'_>,
+    parts: &[Part<'_>],
+    heard: &Heard<Input<'_>>,
+    said: &Said<W>,
+) {
+    if let Some(error) = said.error() {
+        if error.kind() != ErrorKind::BrokenPipe {
+            tell_error(rt, "write to standard output", error);
+        }
+        return;
+    }
+    if let Some(error) = heard.error() {
+        return tell_error(rt, "read standard input", error);
+    }
+    let source = Source {
+        form: form_of(order),
+        bytes: heard.text(),
+        parts,
+    };
+    let message = message_of(rt.alloc(), source, said.last_line());
+    if let Ok(Some(message)) = message {
+        tell(rt, message.as_str());
+    }
+}
