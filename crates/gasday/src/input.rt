@@ -70,7 +70,7 @@ impl<'a> Joined<'a> {
 }
 
 /// Reads files in order.
-pub(crate) fn joined<'a>(rt: &HostRuntime, names: &[&'a str]) -> Result<Joined<'a>, Unread<'a>> {
+pub(crate) fn text_of<'a>(rt: &HostRuntime, names: &[&'a str]) -> Result<Joined<'a>, Unread<'a>> {
     let mut text = Joined {
         bytes: Vec::new(rt.alloc()),
         parts: Vec::new(rt.alloc()),

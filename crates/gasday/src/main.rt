@@ -7,7 +7,7 @@ mod input;
 mod told;
 
 use crate::file::{ArchiveFile, close};
-use crate::input::{Input, joined};
+use crate::input::{Input, text_of};
 use crate::told::{tell_unread, tell_waiting, tell_why};
 use gasday_archive::run;
 use gasday_office::run_office;
@@ -73,7 +73,7 @@ fn carry_out<T: Threads + Wait + Clock + Sync>(
             Input::Standard(rt.reader()),
         );
     }
-    match joined(rt, request.texts.as_slice()) {
+    match text_of(rt, request.texts.as_slice()) {
         Ok(text) => {
             let input = Input::Files(text.bytes.as_slice());
             answer(threads, rt, request.order, text.parts.as_slice(), input)
