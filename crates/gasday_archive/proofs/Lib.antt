@@ -1,4 +1,4 @@
 mod Keeping
-mod Published
+mod Publications
 mod Running
 mod Telling

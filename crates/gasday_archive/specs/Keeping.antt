@@ -8,7 +8,7 @@ use Rattle.gd_archive_store.specs.declared.fault.KeepFault.{KeepFault}
 use Rattle.gd_archive_store.specs.declared.fault.KeepFault.TheVariants as keep
 use Rattle.gd_board.specs.Known.{Knowledge, known_of}
 use Rattle.gd_board.specs.declared.posting.Posting.{Posting}
-use Rattle.gd_book.specs.Posted.{Tells}
+use Rattle.gd_book.specs.Postings.{Tells}
 use Rattle.gd_certificate.specs.Checked.{Certificate}
 use Rattle.gd_machine.specs.declared.event.Event.TheVariants.{Publish}
 use Rattle.gd_machine.specs.declared.reply.Reply.{Reply as BookReply}

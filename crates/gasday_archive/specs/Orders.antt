@@ -4,7 +4,7 @@ use Rattle.sqlite_trees.specs.declared.store.Store.{Ghosts}
 use Rattle.sqlite.specs.Held.{Held}
 use Rattle.sqlite.specs.declared.error.Error.{Error}
 use Rattle.gasday_words.specs.Ordered.{Ordered, Text, ArchivedDay, Audit, Migrate}
-use Rattle.gasday_part.specs.Written.{Answers}
+use Rattle.gasday_part.specs.Output.{Answers}
 use Rattle.gasday_archive.specs.Runs.{TellsAudit, TellsMigration, TellsOpened, TellsText, OrNoMemory, WritesTold}
 
 -- What is written of an order, where the bytes that the reader has left are known or not. A command's answer to them, and nothing

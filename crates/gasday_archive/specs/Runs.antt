@@ -11,7 +11,7 @@ use Rattle.gd_archive_store.specs.declared.fault.StoreFault.{StoreFault}
 use Rattle.gd_archive_store.specs.declared.fault.MigrateFault.{MigrateFault}
 use Rattle.gd_course.specs.Course.{Runs, RunsInPart}
 use Rattle.gd_day.specs.Calls.{Call, calls_of}
-use Rattle.gd_day.specs.Opened.{Opened, opened_of}
+use Rattle.gd_day.specs.Opening.{Opened, opened_of}
 use Rattle.gd_machine.specs.Day.{Day}
 use Rattle.gd_machine.specs.History.{History}
 use Rattle.gd_replies.specs.declared.reply.Reply.{Reply}
@@ -24,7 +24,7 @@ use Rattle.gd_text_part.specs.declared.row.Row.{Row}
 use Rattle.gd_text.specs.Building.{told_at}
 use Rattle.gasday_part.specs.AnswerSeen.{answer_seen}
 use Rattle.gasday_part.specs.Answers.{Told, one, refused, fault_answer, no_memory, no_calendar, day_in, IsCalendarIn, ExplainsDay}
-use Rattle.gasday_part.specs.Written.{Written}
+use Rattle.gasday_part.specs.Output.{Written}
 use Rattle.gasday_part.specs.declared.answer.Answer.{Answer}
 use Rattle.gasday_part.specs.declared.day.DayFault.{DayFault}
 use Rattle.gasday_part.specs.declared.day.DayFault.TheVariants as no

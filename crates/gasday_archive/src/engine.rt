@@ -5,7 +5,7 @@ ghost use Rattle.gasday_words.specs.Ordered as ordered;
 ghost use Rattle.gasday_words.specs.Ordered.{seen};
 ghost use Rattle.gasday_part.specs.AnswerSeen.{answer_seen};
 ghost use Rattle.gasday_part.specs.Answers.{Told};
-ghost use Rattle.gasday_part.specs.Written.{Answers, Written};
+ghost use Rattle.gasday_part.specs.Output.{Answers, Written};
 ghost use Rattle.gasday_archive.specs.Orders as orders;
 
 use crate::opened::{Opener, Outcome, tell_audit, tell_day, tell_migration};

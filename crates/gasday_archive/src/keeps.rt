@@ -5,7 +5,7 @@ ghost use Rattle.std.specs.Vec.{vec_len, vec_capacity};
 ghost use Rattle.sqlite.specs.Held.{state};
 ghost use Rattle.sqlite.specs.State.{HasCleanDisk};
 ghost use Rattle.gd_board.specs.Known.{StaysKnown};
-ghost use Rattle.gd_book.specs.Posted.{AllPosted};
+ghost use Rattle.gd_book.specs.Postings.{AllPosted};
 ghost use Rattle.gasday_archive.specs.Keeping as spec;
 
 use gd_archive::{KeepFault, keep};

@@ -3,7 +3,7 @@
 ghost use Rattle.std.specs.Prelude.{◌≡◌, [], None, IfSome};
 ghost use Rattle.gd_day.specs.Calls.{calls_of};
 ghost use Rattle.gd_day.specs.Groups.{AllPass};
-ghost use Rattle.gd_day.specs.Opened.{opened_of};
+ghost use Rattle.gd_day.specs.Opening.{opened_of};
 ghost use Rattle.gasday_archive.specs.Runs as spec;
 
 use crate::answer::{of_audit, of_migration, of_no_store};
@@ -137,11 +137,23 @@ fn tell_text<S: Alter + Drop, O: Opener<S>>(
     } = text;
     match calendar_of(alloc, date, &zone) {
         Ok(calendar) => match Book::open(alloc, book, contracts, calendar, carry) {
-            Ok(mut book) => tell_book(rt, alloc, opener.open(), &mut book, rows),
+            Ok(mut book) => {
+                let told = tell_book(rt, alloc, opener.open(), &mut book, rows);
+                drop(book);
+                told
+            }
             // No line is carried over twice, so that nothing but memory can be wanting.
-            Err(_) => Outcome::unopened(Err(AllocError)),
+            Err(_) => {
+                drop(opener);
+                Outcome::unopened(Err(AllocError))
+            }
         },
-        Err(fault) => Outcome::unopened(of_no_calendar(alloc, fault)),
+        Err(fault) => {
+            drop(contracts);
+            drop(carry);
+            drop(opener);
+            Outcome::unopened(of_no_calendar(alloc, fault))
+        }
     }
 }
 

@@ -1,12 +1,12 @@
 -- The calendars of gas days, one after the other.
 use Rattle.std.proofs.Common.{◌≡◌, ◌∙◌, ℕ, ◌+◌, ◌<◌, zero, suc, List, [], ◌∷◌, ◌++◌, length, take, get_or, map, Some, option_map, Result, Ok, Err, IfOk, refl, sym, ap, subst, inl, inr, arith}
-use Rattle.std.specs.List.{All, slice_get}
+use Rattle.std.specs.List.{All, AllZip, slice_get}
 use Rattle.std.proofs.lemmas.List.{map-append, take_more, take-map, length-map}
-use Rattle.std.proofs.lemmas.List.Elements.{All-push}
 use Rattle.std.proofs.lemmas.Option.{slice_get-map}
-use Rattle.gd_day.specs.Opened.{Opened}
+use Rattle.gd_day.specs.Opening.{Opened}
 use Rattle.gd_day.specs.declared.text.DayText.{DayText}
 use Rattle.gd_office_calls.specs.Calls.{seen_phase, asked_phase, pipelines}
+use Rattle.gd_machine.specs.Day.{Day}
 use Rattle.gd_office_days.specs.Days.{opened}
 use Rattle.gd_office_phases.specs.Phases.{Round, phases_of}
 use Rattle.gd_office_part.specs.declared.threads.Phase.{Phase}
@@ -16,7 +16,7 @@ use Rattle.gasday_part.specs.declared.answer.Answer.{Answer}
 use Rattle.gasday_part.specs.AnswerSeen.{answer_seen}
 use Rattle.gasday_part.specs.Answers.{ExplainsDay}
 use Rattle.gasday_part.specs.declared.day.DayFault.{DayFault}
-use Rattle.gasday_office.specs.Offices.{HasCalendar, LacksCalendar, TellsPhases, TellsDays}
+use Rattle.gasday_office.specs.Offices.{IsCalendarFor, HasCalendar, IsOpenedWith, LacksCalendar, TellsPhases, TellsDays}
 
 there : (days : List DayText) (i : ℕ) (d : DayText) → i < length days → d ≡ get_or days i d → slice_get days i ≡ Some d
 there [] i d below is = elim below [ ]
@@ -35,13 +35,28 @@ lacks_at days i d f below is before why =
       why,
     )
 
+calendar_push : (days : List Opened) (calendars : List (List ℕ)) (d : Opened) (moments : List ℕ) → AllZip IsCalendarFor days calendars → IsCalendarFor d moments
+    → AllZip IsCalendarFor (days ++ d ∷ []) (calendars ++ moments ∷ [])
+calendar_push [] [] d moments all here = (here, tt)
+calendar_push [] (m ∷ calendars) d moments all here = absurd all
+calendar_push (x ∷ days) [] d moments all here = absurd all
+calendar_push (x ∷ days) (m ∷ calendars) d moments all here = (all.0, calendar_push days calendars d moments all.1 here)
+
 -- one day more has a calendar
-pub calendars_more : (days : List DayText) (i : ℕ) (d : DayText) → i < length days → d ≡ get_or days i d
-    → All HasCalendar (map opened (take i days)) → HasCalendar (opened d) → All HasCalendar (map opened (take (i + 1) days))
-calendars_more days i d below is before here =
+pub calendars_more : (days : List DayText) (i : ℕ) (d : DayText) (calendars : List (List ℕ)) (moments : List ℕ) → i < length days → d ≡ get_or days i d
+    → AllZip IsCalendarFor (map opened (take i days)) calendars → IsCalendarFor (opened d) moments
+    → AllZip IsCalendarFor (map opened (take (i + 1) days)) (calendars ++ moments ∷ [])
+calendars_more days i d calendars moments below is before here =
     let more : take (i + 1) days ≡ take i days ++ d ∷ [] = take_more days i d below ∙ ap (λ (x : DayText). take i days ++ x ∷ []) (sym is) in
-    subst (λ (l : List Opened). All HasCalendar l) (sym (ap (map opened) more ∙ map-append opened (take i days) (d ∷ [])))
-    (All-push HasCalendar (map opened (take i days)) (opened d) before here)
+    subst (λ (l : List Opened). AllZip IsCalendarFor l (calendars ++ moments ∷ [])) (sym (ap (map opened) more ∙ map-append opened (take i days) (d ∷ [])))
+    (calendar_push (map opened (take i days)) calendars (opened d) moments before here)
+
+-- each of these days has one
+pub have_calendars : (days : List Opened) (calendars : List (List ℕ)) → AllZip IsCalendarFor days calendars → All HasCalendar days
+have_calendars [] calendars all k d below = elim below [ ]
+have_calendars (x ∷ days) [] all k d below = absurd all
+have_calendars (x ∷ days) (m ∷ calendars) all zero d below = (m, all.0)
+have_calendars (x ∷ days) (m ∷ calendars) all (suc k) d below = let rest : k < length days = omega (arith, below) in have_calendars days calendars all.1 k d rest
 
 -- the pipelines of days, which are those of what they are opened with
 pub pipelines_are : (days : List DayText) → map (λ d. d.contracts.pipeline) days ≡ map (λ o. o.held.pipeline) (map opened days)
@@ -49,13 +64,13 @@ pipelines_are [] = refl
 pipelines_are (d ∷ days) = ap (λ (ps : List Pipeline). d.contracts.pipeline ∷ ps) (pipelines_are days)
 
 -- what a run of the phases tells, by other names of the slots and the pipelines
-pub tells_days : {E : Type 0} (r : Result Answer E) (days : List DayText) (slots : ℕ) (texts : List Round) (phases : List Phase) (rows : List Row)
-    → All HasCalendar (map opened days) → texts ≡ phases_of rows
+pub tells_days : {E : Type 0} (r : Result Answer E) (days : List DayText) (books : List Day) (slots : ℕ) (texts : List Round) (phases : List Phase) (rows : List Row)
+    → AllZip IsOpenedWith (map opened days) books → texts ≡ phases_of rows
     → map seen_phase phases ≡ map (asked_phase (pipelines days)) texts → slots ≡ length days
-    → IfOk r (λ a. TellsPhases slots phases (answer_seen a)) → IfOk r (λ a. TellsDays rows (map opened days) (answer_seen a))
-tells_days (Err e) days slots texts phases rows calendars read asked many tells = tt
-tells_days (Ok a) days slots texts phases rows calendars read asked many tells =
+    → IfOk r (λ a. TellsPhases books slots phases (answer_seen a)) → IfOk r (λ a. TellsDays rows (map opened days) (answer_seen a))
+tells_days (Err e) days books slots texts phases rows own read asked many tells = tt
+tells_days (Ok a) days books slots texts phases rows own read asked many tells =
     let same : map seen_phase phases ≡ map (asked_phase (map (λ o. o.held.pipeline) (map opened days))) (phases_of rows) =
     asked ∙ ap (map (asked_phase (pipelines days))) read ∙ ap (λ (ps : List Pipeline). map (asked_phase ps) (phases_of rows)) (pipelines_are days) in
     let long : slots ≡ length (map opened days) = many ∙ sym (length-map days opened) in
-    inl (calendars, (phases, same, subst (λ (n : ℕ). TellsPhases n phases (answer_seen a)) long tells))
+    inl (books, own, (phases, same, subst (λ (n : ℕ). TellsPhases books n phases (answer_seen a)) long tells))

@@ -1,1 +1,2 @@
+mod OpenedBooks
 mod Calendars

@@ -1,24 +1,33 @@
 -- What the text of an office is answered.
 use Rattle.std.specs.Prelude.{◌≡◌, ◌≢◌, ◌⊎◌, ℕ, Bool, List, [], ◌∷◌, ◌++◌, length, map, take, slice_get, Some, Result, Ok, Err, if◌then◌else◌}
-use Rattle.std.specs.List.{All}
-use Rattle.gd_day.specs.Opened.{Opened}
+use Rattle.std.specs.List.{All, AllZip}
+use Rattle.gd_day.specs.Opening.{Opened}
+use Rattle.gd_machine.specs.Day.{Day}
 use Rattle.gd_office_calls.specs.Calls.{seen_phase, asked_phase}
 use Rattle.gd_office_days.specs.Days.{days_of}
 use Rattle.gd_office_phases.specs.Phases.{phases_of}
 use Rattle.gd_office_part.specs.declared.threads.Phase.{Phase}
-use Rattle.gd_office_run.specs.Told.{TellsRun, EndsEarly}
+use Rattle.gd_office_run.specs.RunRows.{TellsRun, EndsEarly}
 use Rattle.gd_replies.specs.declared.reply.Reply.{Reply}
 use Rattle.gd_replies.specs.declared.reply.Reply.TheVariants as reply
 use Rattle.gd_text_part.specs.declared.kind.Form.TheVariants as form
 use Rattle.gd_text_part.specs.declared.fault.TextFault.{TextFault}
 use Rattle.gd_text_part.specs.declared.row.Row.{Row}
-use Rattle.gasday_part.specs.Answers.{Told, fault_answer, refused, no_calendar, no_memory, IsCalendarIn, ExplainsDay, MayBeAnswered}
+use Rattle.gasday_part.specs.Answers.{Told, fault_answer, refused, no_calendar, no_memory, day_in, IsCalendarIn, ExplainsDay, MayBeAnswered}
 use Rattle.gasday_part.specs.declared.day.DayFault.{DayFault}
 use Rattle.gasday_part.specs.declared.day.DayFault.TheVariants as no
 
+-- These are the moments of the gas day in its zone.
+abbrev pub IsCalendarFor : Opened → List ℕ → Type 0
+IsCalendarFor d moments = IsCalendarIn d.date d.zone moments
+
 -- The gas day has a calendar in its zone.
 abbrev pub HasCalendar : Opened → Type 0
-HasCalendar d = (moments : List ℕ) × IsCalendarIn d.date d.zone moments
+HasCalendar d = (moments : List ℕ) × IsCalendarFor d moments
+
+-- The opening values of a book: what its block says, in a calendar of its gas day.
+abbrev pub IsOpenedWith : Opened → Day → Type 0
+IsOpenedWith d day = (moments : List ℕ) × IsCalendarFor d moments × (day ≡ day_in d moments)
 
 -- The first gas day that has no calendar has none for this reason; or memory ran out before that was known.
 abbrev pub LacksCalendar : List Opened → DayFault → Type 0
@@ -33,21 +42,21 @@ EndsRun r = (r ≡ no_memory) ⊎ (r ≡ reply.NoThread) ⊎ (r ≡ reply.TooMan
 abbrev pub status_of : Bool → ℕ
 status_of good = if good then 0 else 1
 
--- A run of these phases is told, and how each slot ends, with status 0 where all are reconciled, and else 1. Or it ended early,
--- and a run of the first phases is told, and why, with status 2.
-abbrev pub TellsPhases : ℕ → List Phase → Told → Type 0
-TellsPhases slots phases a =
-    ((rows : List Reply) × (good : Bool) × TellsRun slots phases rows good × (a ≡ record { replies = rows; status = status_of good }))
-    ⊎ ((rows : List Reply) × (last : Reply) × EndsEarly slots phases rows × EndsRun last
+-- A run of these phases on books with these opening values is told, and how each slot ends, with status 0 where all are
+-- reconciled, and else 1. Or it ended early, and a run of the first phases is told, and why, with status 2.
+abbrev pub TellsPhases : List Day → ℕ → List Phase → Told → Type 0
+TellsPhases books slots phases a =
+    ((rows : List Reply) × (good : Bool) × TellsRun books slots phases rows good × (a ≡ record { replies = rows; status = status_of good }))
+    ⊎ ((rows : List Reply) × (last : Reply) × EndsEarly books slots phases rows × EndsRun last
     × (a ≡ record { replies = rows ++ last ∷ []; status = 2 }))
 
--- Where each gas day has a calendar, a run of the phases that the rows ask for, each call on the pipeline of its slot; else the
--- first gas day that has none is told.
+-- Where each gas day has a calendar, a run of the phases that the rows ask for, each call on the pipeline of its slot, and the
+-- book of each slot opened with what its block says; else the first gas day that has none is told.
 abbrev pub TellsDays : List Row → List Opened → Told → Type 0
 TellsDays rows days a =
-    (All HasCalendar days
+    ((books : List Day) × AllZip IsOpenedWith days books
     × ((phases : List Phase) × (map seen_phase phases ≡ map (asked_phase (map (λ d. d.held.pipeline) days)) (phases_of rows))
-    × TellsPhases (length days) phases a))
+    × TellsPhases books (length days) phases a))
     ⊎ ((f : DayFault) × (f ≢ no.OutOfMemory) × LacksCalendar days f × (a ≡ refused (no_calendar f)))
 
 abbrev pub AnswersDays : List Row → Result (List Opened) TextFault → Told → Type 0

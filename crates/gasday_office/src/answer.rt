@@ -1,6 +1,7 @@
 //! What the command answers.
 
 ghost use Rattle.std.specs.Prelude.{◌≡◌, ◌++◌, ◌∷◌, [], IfOk, IfSome, Ok, map, vec_len, length as len_of};
+ghost use Rattle.gd_office.specs.Slots.{AreDaysOf};
 ghost use Rattle.gd_office_days.specs.Days.{days_of as days_by, opened};
 ghost use Rattle.gd_text_part.specs.declared.kind.Form.TheVariants as form;
 ghost use Rattle.gasday_part.specs.Answers.{BytesAnswered, MayBeAnswered};
@@ -15,13 +16,14 @@ use gd_desk::Open;
 use gd_office::Office;
 use gd_office_calls::calls_in;
 use gd_office_days::days_of;
-use gd_office_part::Phase;
+use gd_office_part::{Days, Phase};
 use gd_office_phases::phases_of;
 use gd_office_run::{RunFault, run};
 use gd_replies::Reply;
 use gd_text_part::{Form, Row, read_bytes, rows_in};
 use std::alloc::{AllocError, Global};
 use std::io::Read;
+use std::marker::Brand;
 use std::sync::Wait;
 use std::thread::Threads;
 use std::time::Clock;
@@ -44,13 +46,13 @@ fn ended(replies: Vec<Reply>, last: Reply) -> Answer
 }
 
 /// What a run of these phases in an office tells.
-fn tell_run<R: Threads + Wait + Clock + Sync>(
+fn tell_run<R: Threads + Wait + Clock + Sync, J: Days + Send + Sync>(
     rt: &R,
     alloc: Global,
-    office: &Office,
+    office: &Office<J>,
     phases: &[Phase],
 ) -> Answer
-    ensures { spec.TellsPhases (len_of office.now.slots.items) phases.now (answer_seen result) }
+    ensures { spec.TellsPhases J.days (len_of office.now.slots.items) phases.now (answer_seen result) }
 {
     let mut replies = Vec::new(alloc);
     match run(rt, alloc, office, phases, &Open, &mut replies) {
@@ -66,6 +68,23 @@ fn tell_run<R: Threads + Wait + Clock + Sync>(
     }
 }
 
+/// What a run of these phases tells in an office of books, whose opening values are known.
+fn tell_opened<R: Threads + Wait + Clock + Sync, J: Days + Send + Sync>(
+    rt: &R,
+    alloc: Global,
+    books: Vec<Book>,
+    phases: &[Phase],
+) -> Result<Answer, AllocError>
+    requires { AreDaysOf J.days books.items }
+    ensures { IfOk result (λ a. spec.TellsPhases J.days (vec_len books) phases.now (answer_seen a)) }
+{
+    match Office::<J>::new(alloc, books) {
+        Ok(office) => Ok(tell_run(rt, alloc, &office, phases)),
+        // A text that was read has at most 64 books, each with a name of its own, so that nothing but memory can be wanting.
+        Err(_) => Err(AllocError),
+    }
+}
+
 /// What a run of these phases in an office of these books tells.
 fn tell_books<R: Threads + Wait + Clock + Sync>(
     rt: &R,
@@ -73,13 +92,10 @@ fn tell_books<R: Threads + Wait + Clock + Sync>(
     books: Vec<Book>,
     phases: &[Phase],
 ) -> Result<Answer, AllocError>
-    ensures { IfOk result (λ a. spec.TellsPhases (vec_len books) phases.now (answer_seen a)) }
+    ensures { IfOk result (λ a. spec.TellsPhases (map (λ b. b.day) books.items) (vec_len books)
+        phases.now (answer_seen a)) }
 {
-    match Office::new(alloc, books) {
-        Ok(office) => Ok(tell_run(rt, alloc, &office, phases)),
-        // A text that was read has at most 64 books, each with a name of its own, so that nothing but memory can be wanting.
-        Err(_) => Err(AllocError),
-    }
+    tell_opened::<R, Brand>(rt, alloc, books, phases)
 }
 
 /// What a run of the phases that the rows ask for tells, with a book for each of these gas days.

@@ -1,9 +1,9 @@
 //! The books of an office.
 
-ghost use Rattle.std.specs.Prelude.{◌≡◌, ◌+◌, IfOk, IfErr, OnOk, map, vec_len, length as len_of};
-ghost use Rattle.std.specs.List.{All};
+ghost use Rattle.std.specs.Prelude.{◌≡◌, ◌++◌, ◌∷◌, [], ℕ, List, IfOk, IfErr, OnOk, map, vec_len, length as len_of};
+ghost use Rattle.std.specs.List.{AllZip};
 ghost use Rattle.gd_office_days.specs.Days.{opened};
-ghost use Rattle.gasday_part.specs.Answers.{ExplainsDay};
+ghost use Rattle.gasday_part.specs.Answers.{ExplainsDay, day_in};
 ghost use Rattle.gasday_office.specs.Offices as spec;
 
 use gasday_part::{DayFault, calendar_of};
@@ -14,8 +14,8 @@ use std::alloc::{AllocError, Global};
 
 /// Adds the calendar of a gas day.
 fn take_day(alloc: Global, calendars: &mut Vec<Calendar>, day: &DayText) -> Result<(), DayFault>
-    ensures len { OnOk result (vec_len calendars.new ≡ vec_len calendars.old + 1) }
-    ensures ok { OnOk result (spec.HasCalendar (opened day.now)) }
+    ensures ok { OnOk result ((moments : List ℕ) × spec.IsCalendarFor (opened day.now) moments
+        × (calendars.new.items ≡ calendars.old.items ++ moments ∷ [])) }
     ensures err { IfErr result (ExplainsDay day.now.date day.now.zone) }
 {
     let calendar = calendar_of(alloc, day.date, &day.zone)?;
@@ -28,7 +28,7 @@ fn take_day(alloc: Global, calendars: &mut Vec<Calendar>, day: &DayText) -> Resu
 /// The calendar of each gas day, or why the first that has none has none.
 pub(crate) fn calendars_of(alloc: Global, days: &[DayText]) -> Result<Vec<Calendar>, DayFault>
     ensures len { IfOk result (λ calendars. vec_len calendars ≡ len_of days.now) }
-    ensures all { OnOk result (All spec.HasCalendar (map opened days.now)) }
+    ensures each { IfOk result (λ calendars. AllZip spec.IsCalendarFor (map opened days.now) calendars.items) }
     ensures first { IfErr result (spec.LacksCalendar (map opened days.now)) }
 {
     let Ok(mut calendars) = Vec::with_capacity(alloc, days.len()) else {
@@ -46,8 +46,11 @@ pub(crate) fn books_of(
     days: Vec<DayText>,
     calendars: Vec<Calendar>,
 ) -> Result<Vec<Book>, AllocError>
-    requires { vec_len calendars ≡ vec_len days }
-    ensures { IfOk result (λ books. vec_len books ≡ vec_len days) }
+    requires len { vec_len calendars ≡ vec_len days }
+    requires each { AllZip spec.IsCalendarFor (map opened days.items) calendars.items }
+    ensures len { IfOk result (λ books. vec_len books ≡ vec_len days) }
+    ensures each { IfOk result
+        (λ books. AllZip spec.IsOpenedWith (map opened days.items) (map (λ b. b.day) books.items)) }
 {
     let mut books = Vec::with_capacity(alloc, days.len())?;
     let mut calendars = calendars.into_iter();
@@ -61,7 +64,9 @@ pub(crate) fn books_of(
 }
 
 /// Opens a book.
-fn open(alloc: Global, day: DayText, calendar: Calendar) -> Result<Book, AllocError> {
+fn open(alloc: Global, day: DayText, calendar: Calendar) -> Result<Book, AllocError>
+    ensures { IfOk result (λ book. book.day ≡ day_in (opened day) calendar) }
+{
     let DayText {
         book,
         contracts,

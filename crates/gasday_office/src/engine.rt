@@ -1,7 +1,7 @@
 //! The command from the bytes of a reader to the bytes of a writer.
 
 ghost use Rattle.std.specs.Prelude.{IfSome};
-ghost use Rattle.gasday_part.specs.Written.{WritesAnswer};
+ghost use Rattle.gasday_part.specs.Output.{WritesAnswer};
 ghost use Rattle.gasday_office.specs.Offices.{MayAnswerOffice};
 
 use crate::answer::answer_to;

@@ -15,7 +15,7 @@ use Rattle.gd_text_part.specs.declared.row.Row.{Row}
 use Rattle.gasday_part.specs.declared.answer.Answer.{Answer}
 use Rattle.gasday_part.specs.AnswerSeen.{answer_seen}
 use Rattle.gasday_part.specs.Answers.{Told, MayBeAnswered, fault_answer, no_memory}
-use Rattle.gasday_part.specs.Written.{WritesAnswer, Written}
+use Rattle.gasday_part.specs.Output.{WritesAnswer, Written}
 
 lines-append : (a b : List Reply) → lines_of (a ++ b) ≡ lines_of a ++ lines_of b
 lines-append a b = flat_map-append line_of a b

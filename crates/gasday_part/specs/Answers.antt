@@ -18,7 +18,7 @@ use Rattle.gd_certificate.specs.InForce.{ExplainsTariff}
 use Rattle.gd_certificate.specs.Cutting.{Members, IsShaped, Cuts, ExplainsCut, side_of}
 use Rattle.gd_certificate.specs.declared.CertFault.{CertFault}
 use Rattle.gd_certificate.specs.declared.cut.CutFault.{CutFault}
-use Rattle.gd_question.specs.Posed.{Posed}
+use Rattle.gd_question.specs.Posing.{Posed}
 use Rattle.gd_schedule.specs.Exact.{Explains}
 use Rattle.gd_schedule.specs.declared.Broken.{Broken}
 use Rattle.gd_text_part.specs.Texts.{rows_of, IsWithin, IsTooLong, HasManyBytes, HasManyRows}
@@ -33,7 +33,7 @@ use Rattle.gd_replies.specs.Calendars.{calendar_rows}
 use Rattle.gd_machine.specs.Day.{Day}
 use Rattle.gd_machine.specs.History.{History}
 use Rattle.gd_day.specs.Calls.{Call, calls_of}
-use Rattle.gd_day.specs.Opened.{Opened, opened_of}
+use Rattle.gd_day.specs.Opening.{Opened, opened_of}
 use Rattle.gd_course.specs.Course.{Runs, RunsInPart}
 use Rattle.gd_text.specs.Building.{told_at}
 use Rattle.gd_text.specs.Days.{day_of}

@@ -1,3 +1,3 @@
 pub mod Answers
 pub mod AnswerSeen
-pub mod Written
+pub mod Output

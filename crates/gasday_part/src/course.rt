@@ -3,7 +3,7 @@
 ghost use Rattle.std.specs.Prelude.{◌≡◌, [], IfOk, Ok};
 ghost use Rattle.gd_day.specs.Calls.{calls_of};
 ghost use Rattle.gd_day.specs.Groups.{AllPass};
-ghost use Rattle.gd_day.specs.Opened.{opened_of};
+ghost use Rattle.gd_day.specs.Opening.{opened_of};
 ghost use Rattle.gasday_part.specs.Answers as spec;
 ghost use Rattle.gasday_part.specs.AnswerSeen.{answer_seen};
 
@@ -61,11 +61,19 @@ fn tell_text(
     } = text;
     match calendar_of(alloc, date, &zone) {
         Ok(calendar) => match Book::open(alloc, book, contracts, calendar, carry) {
-            Ok(mut book) => Ok(tell_calls(rt, alloc, &mut book, rows)),
+            Ok(mut book) => {
+                let told = tell_calls(rt, alloc, &mut book, rows);
+                drop(book);
+                Ok(told)
+            }
             // No line is carried over twice, so that nothing but memory can be wanting.
             Err(_) => Err(AllocError),
         },
-        Err(fault) => of_no_calendar(alloc, fault),
+        Err(fault) => {
+            drop(contracts);
+            drop(carry);
+            of_no_calendar(alloc, fault)
+        }
     }
 }
 

@@ -5,7 +5,7 @@ ghost use Rattle.std.specs.Io.KnownBytes.{Appends};
 ghost use Rattle.gd_replies.specs.Lines.{lines_of};
 ghost use Rattle.gasday_part.specs.AnswerSeen.{answer_seen, last_row};
 ghost use Rattle.gasday_part.specs.Answers.{Told, no_memory};
-ghost use Rattle.gasday_part.specs.Written.{Answers, Written};
+ghost use Rattle.gasday_part.specs.Output.{Answers, Written};
 
 use crate::answer::{Answer, answer_to};
 use gasday_words::Command;

@@ -12,7 +12,7 @@ use Rattle.gasday_words.specs.declared.order.Command.TheVariants.{CheckAllowed, 
 use Rattle.gasday_words.specs.Ordered as ordered
 use Rattle.gasday_words.specs.Ordered.{Ordered, Requested, requested, without_texts}
 use Rattle.gasday_words.specs.Meaning.{gasday, meaning_of, arguments, forms, forms_with, helps, versions}
-use Rattle.gasday_words.specs.Told.{IsHelp, IsRequest, IsTold, IsVersion, TakesFiles, TakesForm, TakesForms, TakesHelps, TakesTexts, TakesVersions}
+use Rattle.gasday_words.specs.Outcomes.{IsHelp, IsRequest, IsTold, IsVersion, TakesFiles, TakesForm, TakesForms, TakesHelps, TakesTexts, TakesVersions}
 
 pub is_simple_gasday : is_simple gasday ≡ true
 unfolding clap_on_literals

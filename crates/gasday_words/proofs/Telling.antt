@@ -9,7 +9,7 @@ use Rattle.gasday_words.specs.declared.fault.UsageFault.{UsageFault}
 use Rattle.gasday_words.specs.declared.fault.UsageFault.TheVariants.{Help, Version, Usage, OutOfMemory}
 use Rattle.gasday_words.specs.Ordered.{Requested}
 use Rattle.gasday_words.specs.Meaning.{gasday, meaning_of}
-use Rattle.gasday_words.specs.Told.{IsNoRequest, IsTelling, IsTold, IsUsage, unless_at_fault}
+use Rattle.gasday_words.specs.Outcomes.{IsNoRequest, IsTelling, IsTold, IsUsage, unless_at_fault}
 
 none_at_fault : (k : ErrorKind) (ks : Kinds) (meaning : Option Requested) → IsAmong k ks → unless_at_fault ks meaning ≡ None
 none_at_fault k [] meaning among = absurd among

@@ -1,3 +1,3 @@
 pub mod Ordered
 pub mod Meaning
-pub mod Told
+pub mod Outcomes

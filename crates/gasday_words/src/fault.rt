@@ -1,7 +1,7 @@
 //! Why words are no order.
 
 ghost use Rattle.clap.specs.Words.{kind_of};
-ghost use Rattle.gasday_words.specs.Told.{IsTelling, IsUsage};
+ghost use Rattle.gasday_words.specs.Outcomes.{IsTelling, IsUsage};
 
 use clap::error::ErrorKind;
 use std::alloc::{AllocError, Global};

@@ -1,7 +1,7 @@
 //! The command line as `clap` is told of it.
 
 ghost use Rattle.std.specs.Prelude.{◌≡◌, IfOk, false};
-ghost use Rattle.clap.specs.Words.{app_of, rule_of};
+ghost use Rattle.clap.specs.Words.{App, app_of, new_app, rule_of, with_subcommand};
 ghost use Rattle.clap.specs.declared.builder.command.Command.TheViews.{out-Command};
 ghost use Rattle.gasday_words.specs.Meaning as spec;
 
@@ -9,8 +9,8 @@ use crate::help;
 use clap::{Arg, ArgAction, Command as CommandLine};
 use std::alloc::{AllocError, Global};
 
-/// The version of the program, and of the kit that proves it.
-const VERSION: &str = "1.0.0 (proved by rattle-kit-13f)";
+/// The version of the program, and of the logic in which it is proved, which several kits share.
+const VERSION: &str = "1.0.0 (proved in Rattle's logic dac8208d650f15bf)";
 
 const ABOUT: &str = "The scheduling office of one gas pipeline.
 
@@ -27,6 +27,41 @@ cut: a set of places, points and pools shows that no schedule is allowed";
 
 const HELP_OF_TEXTS: &str = "the files that make up the text, in order; standard input without any";
 
+/// A command of this name, before it takes words, with the texts of its help.
+fn command<'a>(
+    alloc: Global,
+    name: &'a str,
+    about: &'a str,
+    short: &'a str,
+    long: &'a str,
+) -> CommandLine<'a>
+    ensures app { app_of result ≡ new_app name.entry.now }
+    ensures local { (out-Command result).has_globals ≡ false }
+{
+    CommandLine::new(alloc, name)
+        .about(about)
+        .after_help(short)
+        .after_long_help(long)
+}
+
+/// A command line with one more command, or want of memory.
+fn with_command<'a>(
+    line: CommandLine<'a>,
+    command: Result<CommandLine<'a>, AllocError>,
+) -> Result<CommandLine<'a>, AllocError>
+    requires { IfOk command (λ c. (out-Command c).has_globals ≡ false) }
+    ensures { IfOk result (λ r. (a : App) → IfOk command.entry (λ c. app_of c ≡ a)
+        → app_of r ≡ with_subcommand (app_of line.entry) a.top) }
+{
+    match command {
+        Ok(command) => line.subcommand(command),
+        Err(fault) => {
+            drop(line);
+            Err(fault)
+        }
+    }
+}
+
 /// TEXT, any number of words.
 fn texts<'a>(alloc: Global) -> Arg<'a>
     ensures rule { rule_of result ≡ spec.texts }
@@ -39,22 +74,32 @@ fn texts<'a>(alloc: Global) -> Arg<'a>
         .help(HELP_OF_TEXTS)
 }
 
-/// `check WHAT [TEXT]..`. clap takes any WHAT: a list of possible values would put references into the meaning
-/// of the line, so the program tells the words apart itself.
+/// WHAT, one word that has to be there. clap takes any word: a list of possible values would put references into
+/// the meaning of the line, so the program tells the words apart itself.
+fn what<'a>(alloc: Global) -> Arg<'a>
+    ensures rule { rule_of result ≡ spec.what }
+    ensures local { result.global ≡ false }
+{
+    Arg::new(alloc, "what")
+        .value_name("WHAT")
+        .required(true)
+        .help(HELP_OF_WHAT)
+}
+
+/// `check WHAT [TEXT]..`.
 fn check<'a>(alloc: Global) -> Result<CommandLine<'a>, AllocError>
     ensures app { IfOk result (λ c. app_of c ≡ spec.check) }
     ensures local { IfOk result (λ c. (out-Command c).has_globals ≡ false) }
 {
-    let what = Arg::new(alloc, "what")
-        .value_name("WHAT")
-        .required(true)
-        .help(HELP_OF_WHAT);
-    CommandLine::new(alloc, "check")
-        .about(ABOUT_CHECK)
-        .after_help(help::SHORT_OF_CHECK)
-        .after_long_help(help::LONG_OF_CHECK)
-        .arg(what)?
-        .arg(texts(alloc))
+    command(
+        alloc,
+        "check",
+        ABOUT_CHECK,
+        help::SHORT_OF_CHECK,
+        help::LONG_OF_CHECK,
+    )
+    .arg(what(alloc))?
+    .arg(texts(alloc))
 }
 
 const ABOUT_SOLVE: &str =
@@ -65,11 +110,14 @@ fn solve<'a>(alloc: Global) -> Result<CommandLine<'a>, AllocError>
     ensures app { IfOk result (λ c. app_of c ≡ spec.solve) }
     ensures local { IfOk result (λ c. (out-Command c).has_globals ≡ false) }
 {
-    CommandLine::new(alloc, "solve")
-        .about(ABOUT_SOLVE)
-        .after_help(help::SHORT_OF_SOLVE)
-        .after_long_help(help::LONG_OF_SOLVE)
-        .arg(texts(alloc))
+    command(
+        alloc,
+        "solve",
+        ABOUT_SOLVE,
+        help::SHORT_OF_SOLVE,
+        help::LONG_OF_SOLVE,
+    )
+    .arg(texts(alloc))
 }
 
 const ABOUT_CALENDAR: &str = "Tells the moments of a gas day's five cycles, and its hours";
@@ -79,32 +127,45 @@ fn calendar<'a>(alloc: Global) -> Result<CommandLine<'a>, AllocError>
     ensures app { IfOk result (λ c. app_of c ≡ spec.calendar) }
     ensures local { IfOk result (λ c. (out-Command c).has_globals ≡ false) }
 {
-    CommandLine::new(alloc, "calendar")
-        .about(ABOUT_CALENDAR)
-        .after_help(help::SHORT_OF_CALENDAR)
-        .after_long_help(help::LONG_OF_CALENDAR)
-        .arg(texts(alloc))
+    command(
+        alloc,
+        "calendar",
+        ABOUT_CALENDAR,
+        help::SHORT_OF_CALENDAR,
+        help::LONG_OF_CALENDAR,
+    )
+    .arg(texts(alloc))
 }
 
 const ABOUT_DAY: &str = "Makes the calls of a whole gas day, and tells what each gives";
 
 const HELP_OF_ARCHIVE: &str = "keep in FILE what is published";
 
+/// `--archive FILE`, which may be left out.
+fn archive<'a>(alloc: Global) -> Arg<'a>
+    ensures rule { rule_of result ≡ spec.archive }
+    ensures local { result.global ≡ false }
+{
+    Arg::new(alloc, "archive")
+        .long("archive")
+        .value_name("FILE")
+        .help(HELP_OF_ARCHIVE)
+}
+
 /// `day [--archive FILE] [TEXT]..`.
 fn day<'a>(alloc: Global) -> Result<CommandLine<'a>, AllocError>
     ensures app { IfOk result (λ c. app_of c ≡ spec.day) }
     ensures local { IfOk result (λ c. (out-Command c).has_globals ≡ false) }
 {
-    let archive = Arg::new(alloc, "archive")
-        .long("archive")
-        .value_name("FILE")
-        .help(HELP_OF_ARCHIVE);
-    CommandLine::new(alloc, "day")
-        .about(ABOUT_DAY)
-        .after_help(help::SHORT_OF_DAY)
-        .after_long_help(help::LONG_OF_DAY)
-        .arg(archive)?
-        .arg(texts(alloc))
+    command(
+        alloc,
+        "day",
+        ABOUT_DAY,
+        help::SHORT_OF_DAY,
+        help::LONG_OF_DAY,
+    )
+    .arg(archive(alloc))?
+    .arg(texts(alloc))
 }
 
 const ABOUT_OFFICE: &str =
@@ -115,11 +176,14 @@ fn office<'a>(alloc: Global) -> Result<CommandLine<'a>, AllocError>
     ensures app { IfOk result (λ c. app_of c ≡ spec.office) }
     ensures local { IfOk result (λ c. (out-Command c).has_globals ≡ false) }
 {
-    CommandLine::new(alloc, "office")
-        .about(ABOUT_OFFICE)
-        .after_help(help::SHORT_OF_OFFICE)
-        .after_long_help(help::LONG_OF_OFFICE)
-        .arg(texts(alloc))
+    command(
+        alloc,
+        "office",
+        ABOUT_OFFICE,
+        help::SHORT_OF_OFFICE,
+        help::LONG_OF_OFFICE,
+    )
+    .arg(texts(alloc))
 }
 
 const HELP_OF_FILE: &str = "the archive, a SQLite database";
@@ -142,11 +206,14 @@ fn audit<'a>(alloc: Global) -> Result<CommandLine<'a>, AllocError>
     ensures app { IfOk result (λ c. app_of c ≡ spec.audit) }
     ensures local { IfOk result (λ c. (out-Command c).has_globals ≡ false) }
 {
-    CommandLine::new(alloc, "audit")
-        .about(ABOUT_AUDIT)
-        .after_help(help::SHORT_OF_AUDIT)
-        .after_long_help(help::LONG_OF_AUDIT)
-        .arg(file(alloc))
+    command(
+        alloc,
+        "audit",
+        ABOUT_AUDIT,
+        help::SHORT_OF_AUDIT,
+        help::LONG_OF_AUDIT,
+    )
+    .arg(file(alloc))
 }
 
 const ABOUT_MIGRATE: &str = "Brings an archive of version 1 to version 2";
@@ -156,40 +223,51 @@ fn migrate<'a>(alloc: Global) -> Result<CommandLine<'a>, AllocError>
     ensures app { IfOk result (λ c. app_of c ≡ spec.migrate) }
     ensures local { IfOk result (λ c. (out-Command c).has_globals ≡ false) }
 {
-    CommandLine::new(alloc, "migrate")
-        .about(ABOUT_MIGRATE)
-        .after_help(help::SHORT_OF_MIGRATE)
-        .after_long_help(help::LONG_OF_MIGRATE)
-        .arg(file(alloc))
+    command(
+        alloc,
+        "migrate",
+        ABOUT_MIGRATE,
+        help::SHORT_OF_MIGRATE,
+        help::LONG_OF_MIGRATE,
+    )
+    .arg(file(alloc))
 }
 
 /// The program's name, before it has commands.
 fn bare<'a>(alloc: Global) -> CommandLine<'a>
     ensures { app_of result ≡ spec.bare }
 {
-    CommandLine::new(alloc, "gasday")
-        .version(VERSION)
-        .about(ABOUT)
-        .after_help(help::SHORT)
-        .after_long_help(help::LONG)
+    command(alloc, "gasday", ABOUT, help::SHORT, help::LONG).version(VERSION)
 }
 
 /// The program with the commands that take a text.
 fn with_texts<'a>(alloc: Global) -> Result<CommandLine<'a>, AllocError>
     ensures { IfOk result (λ c. app_of c ≡ spec.with_texts) }
 {
-    let with_check = bare(alloc).subcommand(check(alloc)?)?;
-    let with_solve = with_check.subcommand(solve(alloc)?)?;
-    let with_calendar = with_solve.subcommand(calendar(alloc)?)?;
-    let with_day = with_calendar.subcommand(day(alloc)?)?;
-    with_day.subcommand(office(alloc)?)
+    let Ok(with_check) = with_command(bare(alloc), check(alloc)) else {
+        return Err(AllocError);
+    };
+    let Ok(with_solve) = with_command(with_check, solve(alloc)) else {
+        return Err(AllocError);
+    };
+    let Ok(with_calendar) = with_command(with_solve, calendar(alloc)) else {
+        return Err(AllocError);
+    };
+    let Ok(with_day) = with_command(with_calendar, day(alloc)) else {
+        return Err(AllocError);
+    };
+    with_command(with_day, office(alloc))
 }
 
 /// The command line of the program, with the texts of its help.
 pub(crate) fn gasday<'a>(alloc: Global) -> Result<CommandLine<'a>, AllocError>
     ensures { IfOk result (λ c. app_of c ≡ spec.gasday) }
 {
-    let texts = with_texts(alloc)?;
-    let with_audit = texts.subcommand(audit(alloc)?)?;
-    with_audit.subcommand(migrate(alloc)?)
+    let Ok(texts) = with_texts(alloc) else {
+        return Err(AllocError);
+    };
+    let Ok(with_audit) = with_command(texts, audit(alloc)) else {
+        return Err(AllocError);
+    };
+    with_command(with_audit, migrate(alloc))
 }

@@ -3,6 +3,7 @@
 ghost use Rattle.std.specs.Prelude.{◌≡◌, IfOk, map, option_map};
 ghost use Rattle.clap.specs.Words.{first_of, found_of, rows_of, subcommand_rows_of};
 ghost use Rattle.gasday_words.specs.Meaning as spec;
+ghost use Rattle.gasday_words.specs.Ordered as ordered;
 ghost use Rattle.gasday_words.specs.Ordered.{requested, seen};
 
 use clap::ArgMatches;
@@ -60,6 +61,37 @@ fn check_named(word: Option<&str>) -> Option<Command>
     }
 }
 
+/// The check that the word after `check` names, as an order.
+fn check_of<'a>(word: Option<&str>) -> Option<Order<'a>>
+    ensures { option_map seen result
+        ≡ option_map ordered.Text (spec.check_named (option_map (λ w. w.now) word.entry)) }
+{
+    match check_named(word) {
+        Some(check) => Some(Order::Text(check)),
+        None => None,
+    }
+}
+
+/// The order that checks this archive.
+fn audit_of<'a>(file: Option<&'a str>) -> Option<Order<'a>>
+    ensures { option_map seen result ≡ option_map ordered.Audit (option_map (λ f. f.now) file.entry) }
+{
+    match file {
+        Some(file) => Some(Order::Audit(file)),
+        None => None,
+    }
+}
+
+/// The order that brings this archive to version 2.
+fn migrate_of<'a>(file: Option<&'a str>) -> Option<Order<'a>>
+    ensures { option_map seen result ≡ option_map ordered.Migrate (option_map (λ f. f.now) file.entry) }
+{
+    match file {
+        Some(file) => Some(Order::Migrate(file)),
+        None => None,
+    }
+}
+
 /// A gas day, kept in the archive where there is one.
 fn day_kept_in<'a>(archive: Option<&'a str>) -> Order<'a>
     ensures { seen result ≡ spec.day_kept_in (option_map (λ f. f.now) archive.entry) }
@@ -82,13 +114,13 @@ fn order_from<'a>(name: &str, given: &ArgMatches<'a>) -> Option<Order<'a>>
     ensures { option_map seen result ≡ spec.order_from name.now (rows_of (found_of given.now)) }
 {
     match name {
-        "check" => Some(Order::Text(check_named(word_given(given, "what"))?)),
+        "check" => check_of(word_given(given, "what")),
         "solve" => Some(Order::Text(Command::Solve)),
         "calendar" => Some(Order::Text(Command::Calendar)),
         "day" => Some(day_kept_in(word_given(given, "archive"))),
         "office" => Some(Order::Text(Command::Office)),
-        "audit" => Some(Order::Audit(word_given(given, "file")?)),
-        "migrate" => Some(Order::Migrate(word_given(given, "file")?)),
+        "audit" => audit_of(word_given(given, "file")),
+        "migrate" => migrate_of(word_given(given, "file")),
         _ => None,
     }
 }

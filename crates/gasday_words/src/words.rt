@@ -4,7 +4,7 @@ ghost use Rattle.std.specs.Prelude.{◌≡◌, [], map, Some, true, is_some, IfO
 ghost use Rattle.clap.specs.Words.{takes, fault_of as kinds_of_fault, subcommand_rows_of};
 ghost use Rattle.gasday_words.specs.Meaning as spec;
 ghost use Rattle.gasday_words.specs.Ordered.{requested};
-ghost use Rattle.gasday_words.specs.Told.{IsNoRequest, IsTold, TakesFiles, TakesForms, TakesHelps, TakesTexts, TakesVersions};
+ghost use Rattle.gasday_words.specs.Outcomes.{IsNoRequest, IsTold, TakesFiles, TakesForms, TakesHelps, TakesTexts, TakesVersions};
 
 use crate::fault::{UsageFault, fault_of, unknown_check};
 use crate::line::gasday;
@@ -38,8 +38,16 @@ fn request_by_clap<'a, S: AsStr>(alloc: Global, words: &'a [S]) -> Result<Reques
         return Err(UsageFault::OutOfMemory);
     };
     match line.try_get_matches_from(words) {
-        Ok(matches) => request_named(alloc, &matches),
-        Err(error) => Err(fault_of(alloc, &error)),
+        Ok(matches) => {
+            let named = request_named(alloc, &matches);
+            drop(matches);
+            named
+        }
+        Err(error) => {
+            let fault = fault_of(alloc, &error);
+            drop(error);
+            Err(fault)
+        }
     }
 }
 

@@ -10,12 +10,12 @@ use Rattle.gd_board.specs.declared.posting.Posting.{Posting}
 use Rattle.gd_body.specs.Body.{IsBody, posting_in}
 use Rattle.gd_body.specs.Rows.{body_text}
 use Rattle.gd_body.specs.Spread.{without_spread}
-use Rattle.gd_archive_store.specs.Carried.{carried}
+use Rattle.gd_archive_store.specs.Migration.{carried}
 use Rattle.gd_archive_store.proofs.Inserting.{cast_int}
 use Rattle.gd_archive.specs.Calls.{rewritten, rewritten_to, IsCarried}
 use Rattle.gd_certificate.specs.declared.CertFault.{CertFault}
 use Rattle.gd_certificate.specs.declared.CertFault.TheVariants as cert
-use Rattle.gd_archive.specs.Sound.{Blames, ExplainsBy, uncertified, IsBook, IsCycle, IsLabel, IsSound, Passes, posting_of, posting_of_body, posting_at, where_of, is_of, is_number, text_of, count_of}
+use Rattle.gd_archive.specs.Soundness.{Blames, ExplainsBy, uncertified, IsBook, IsCycle, IsLabel, IsSound, Passes, posting_of, posting_of_body, posting_at, where_of, is_of, is_number, text_of, count_of}
 use Rattle.gd_archive.specs.declared.row.Label.{Label}
 
 -- a posting of another book, cycle or round is none of this row

@@ -4,9 +4,9 @@ use Rattle.sqlite.specs.declared.types.Value.{Value}
 use Rattle.sqlite.specs.declared.types.Value.TheVariants.{Int, Blob}
 use Rattle.sqlite.specs.Order.{Row, column}
 use Rattle.sqlite.specs.State.{State}
-use Rattle.gd_archive_store.specs.Kept.{kept_at, rows_of, IsAscending, entry, IsArchive, IsSame}
+use Rattle.gd_archive_store.specs.Contents.{kept_at, rows_of, IsAscending, entry, IsArchive, IsSame}
 use Rattle.gd_archive_store.specs.Calls as store
-use Rattle.gd_archive_store.specs.Carried.{carried}
+use Rattle.gd_archive_store.specs.Migration.{carried}
 use Rattle.gd_archive_store.specs.declared.fault.KeepFault.{KeepFault}
 use Rattle.gd_archive_store.specs.declared.fault.KeepFault.TheVariants as keep_fault
 use Rattle.gd_archive_store.specs.declared.fault.MigrateFault.{MigrateFault}
@@ -14,7 +14,7 @@ use Rattle.gd_board.specs.declared.posting.Posting.{Posting}
 use Rattle.gd_body.specs.Body.{IsBody}
 use Rattle.gd_body.specs.Rows.{body_text}
 use Rattle.gd_body.specs.Spread.{without_spread}
-use Rattle.gd_archive.specs.Sound.{posting_of, posting_at, number, IsSound, Blames}
+use Rattle.gd_archive.specs.Soundness.{posting_of, posting_at, number, IsSound, Blames}
 use Rattle.gd_archive.specs.declared.fault.Rule.{Rule}
 use Rattle.gd_archive.specs.declared.fault.Rule.TheVariants.{Classes, Spread}
 use Rattle.gd_archive.specs.declared.fault.FetchFault.{FetchFault}

@@ -1,3 +1,3 @@
 pub mod Faults
-pub mod Sound
+pub mod Soundness
 pub mod Calls

@@ -4,7 +4,7 @@ ghost use Rattle.std.specs.Prelude.{All, IfErr, OnOk};
 ghost use Rattle.sqlite.specs.Held.{state};
 ghost use Rattle.sqlite.specs.State.{HasCleanDisk};
 ghost use Rattle.gd_archive.specs.Calls as calls;
-ghost use Rattle.gd_archive.specs.Sound as spec;
+ghost use Rattle.gd_archive.specs.Soundness as spec;
 
 use crate::fault::AuditFault;
 use crate::row::Label;

@@ -6,7 +6,7 @@ ghost use Rattle.sqlite.specs.State.{HasCleanDisk};
 ghost use Rattle.sqlite.specs.Order.{column};
 ghost use Rattle.sqlite.specs.declared.types.Value.TheVariants.{Int};
 ghost use Rattle.gd_archive.specs.Calls as calls;
-ghost use Rattle.gd_archive.specs.Sound as spec;
+ghost use Rattle.gd_archive.specs.Soundness as spec;
 
 use crate::fault::{FetchFault, NO_ARCHIVE, NO_MEMORY, Rule};
 use crate::row::rule_of;

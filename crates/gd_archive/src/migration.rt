@@ -24,8 +24,14 @@ fn body_by_classes(alloc: Global, posting: Posting) -> Result<Vec<u8>, Error>
 {
     let posting = without_spread(alloc, posting)?;
     match body_of(alloc, &posting) {
-        Ok(body) => Ok(body),
-        Err(fault) => Err(cause_of(fault)),
+        Ok(body) => {
+            drop(posting);
+            Ok(body)
+        }
+        Err(fault) => {
+            drop(posting);
+            Err(cause_of(fault))
+        }
     }
 }
 

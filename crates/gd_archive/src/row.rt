@@ -1,7 +1,7 @@
 //! The rows of an archive.
 
 ghost use Rattle.std.specs.Prelude.{◌≡◌, IfOk, IfSome};
-ghost use Rattle.gd_archive.specs.Sound as spec;
+ghost use Rattle.gd_archive.specs.Soundness as spec;
 
 use crate::fault::{AuditFault, NO_ARCHIVE, NO_MEMORY, Rule, Unsound};
 use gd_certificate::CertFault;

@@ -4,7 +4,7 @@ ghost use Rattle.std.specs.Prelude.{◌≡◌, ◌≢◌, Some, None, Err, IfOk,
 ghost use Rattle.sqlite.specs.declared.types.Value.TheVariants.{Int};
 ghost use Rattle.sqlite_value.specs.Value.{owned};
 ghost use Rattle.gd_cost.specs.Parts.{first_of};
-ghost use Rattle.gd_archive.specs.Sound as spec;
+ghost use Rattle.gd_archive.specs.Soundness as spec;
 
 use crate::fault::{AuditFault, NO_MEMORY, Rule, Unsound};
 use crate::row::Label;
@@ -48,6 +48,7 @@ pub(crate) fn posting_at(
     if is_of(&posting, book, cycle, round) {
         Ok(posting)
     } else {
+        drop(posting);
         Err(BodyFault::Damaged)
     }
 }
@@ -104,7 +105,13 @@ pub(crate) fn test_row(alloc: Global, row: &Row) -> Result<(), AuditFault>
         Err(BodyFault::OutOfMemory) => return Err(AuditFault::Store(NO_MEMORY)),
     };
     match check_posting(alloc, label.rule, &posting) {
-        Ok(()) => Ok(()),
-        Err(fault) => Err(label.uncertified(fault)),
+        Ok(()) => {
+            drop(posting);
+            Ok(())
+        }
+        Err(fault) => {
+            drop(posting);
+            Err(label.uncertified(fault))
+        }
     }
 }

@@ -10,7 +10,7 @@ use Rattle.std.proofs.lemmas.List.{get_or-map}
 use Rattle.sqlite_value.proofs.OrderLemmas.{value_cmp_total}
 use Rattle.sqlite.specs.Order.{Row, column, value_cmp}
 use Rattle.sqlite.specs.Query.{Output, output, output_cmp}
-use Rattle.gd_archive_store.specs.Kept.{posting_cmp, IsAscending}
+use Rattle.gd_archive_store.specs.Contents.{posting_cmp, IsAscending}
 use Rattle.gd_archive_store.proofs.Texts.{all_query}
 
 -- the keys of an output are the book and the cycle that it shows

@@ -15,7 +15,7 @@ use Rattle.sqlite.specs.State.{State, Shown, ShowsRows, IsUnchanged}
 use Rattle.sqlite.specs.Clock.{timed}
 use Rattle.sqlite.proofs.Callers.{IsPlain, reads_as}
 use Rattle.gd_archive_store.specs.Tables.{archive, version_2, HasArchive}
-use Rattle.gd_archive_store.specs.Kept.{is_of, kept_in, kept_at, versions_of}
+use Rattle.gd_archive_store.specs.Contents.{is_of, kept_in, kept_at, versions_of}
 use Rattle.gd_archive_store.proofs.Texts.{find_text, find_is, find_plain, find_query, version_text, version_query, version_is}
 
 -- a query changes nothing

@@ -10,15 +10,15 @@ use Rattle.sqlite.specs.Cast.{cast}
 use Rattle.sqlite.specs.Kind.TheVariants.{Integer}
 use Rattle.sqlite.specs.Listing.{understood}
 use Rattle.sqlite.proofs.Callers.{IsPlain}
-use Rattle.gd_archive_store.specs.Kept.{IsRefused}
+use Rattle.gd_archive_store.specs.Contents.{IsRefused}
 use Rattle.gd_archive_store.proofs.Refusing.{query_refused}
 use Rattle.gd_archive_store.proofs.Finding.{shown_same}
 use Rattle.gd_archive_store.proofs.Inserting.{Enters, enters}
 use Rattle.gd_archive_store.proofs.Texts.{insert_text}
 use Rattle.gd_archive_store.specs.Tables.{archive, posting, posting2, no_schema, only_archive, version_1, version_2}
-use Rattle.gd_archive_store.specs.Kept.{rows_of, old_rows_of, shown}
+use Rattle.gd_archive_store.specs.Contents.{rows_of, old_rows_of, shown}
 use Rattle.gd_archive_store.proofs.Texts.{archive_is, posting_is, posting2_is, archive_plain, posting_plain, posting2_plain, create_archive_text, create_posting_text, create_posting2_text}
-use Rattle.gd_archive_store.specs.Carried.{IsBuilt, IsOneMore, IsMore, IsMigrated, carried}
+use Rattle.gd_archive_store.specs.Migration.{IsBuilt, IsOneMore, IsMore, IsMigrated, carried}
 use Rattle.std.specs.List.Sorted.{IsPermutation}
 use Rattle.std.proofs.lemmas.List.Sorted.{IsPermutation-refl, IsPermutation-trans, IsPermutation-map, IsPermutation-push_more, IsPermutation-sym, All-permutation, length_permutation}
 use Rattle.std.proofs.lemmas.List.Elements.{All-push}

@@ -7,7 +7,7 @@ use Rattle.sqlite.specs.Order.{Row}
 use Rattle.sqlite.specs.Effect.{Database}
 use Rattle.sqlite.specs.State.{State, IsUnchanged}
 use Rattle.gd_archive_store.specs.Calls.{Finds}
-use Rattle.gd_archive_store.specs.Kept.{kept_at, IsArchive, IsEntered, IsSettled, IsSame}
+use Rattle.gd_archive_store.specs.Contents.{kept_at, IsArchive, IsEntered, IsSettled, IsSame}
 use Rattle.gd_archive_store.specs.Tables.{version_2}
 use Rattle.gd_archive_store.proofs.Reading.{none_there, some_there}
 

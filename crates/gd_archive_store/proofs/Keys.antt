@@ -13,7 +13,7 @@ use Rattle.sqlite.specs.Order.{Row}
 use Rattle.sqlite.specs.Effect.{Database}
 use Rattle.sqlite.specs.Ops.{binary}
 use Rattle.sqlite_schema.specs.Rules.{equal}
-use Rattle.gd_archive_store.specs.Kept.{is_of, kept_in, kept_at, shown, rows_of, entry, IsEntered}
+use Rattle.gd_archive_store.specs.Contents.{is_of, kept_in, kept_at, shown, rows_of, entry, IsEntered}
 use Rattle.gd_archive_store.specs.Tables.{version_2}
 use Rattle.sqlite.specs.declared.error.Error.{Error}
 use Rattle.gd_archive_store.proofs.Rows.{put_skips, put_alone, put_permutes}

@@ -14,7 +14,7 @@ use Rattle.sqlite.proofs.Callers.{IsPlain, reads_as}
 use Rattle.gd_archive_store.specs.Tables.{version_2}
 use Rattle.gd_archive_store.proofs.Finding.{shown_same}
 use Rattle.gd_archive_store.proofs.Texts.{all_text, all_query, all_is}
-use Rattle.gd_archive_store.specs.Kept.{shown, rows_of, IsAscending}
+use Rattle.gd_archive_store.specs.Contents.{shown, rows_of, IsAscending}
 use Rattle.gd_archive_store.proofs.Ascending.{IsKeyed, all_keyed, ascends}
 
 all_pass : (params : Row) (rows : List Row) → flat_map (λ r. if list_all (holds (params ∷ r ∷ [])) all_query.filter then ((params ∷ r ∷ []) ∷ []) else []) rows ≡ map (λ r. params ∷ r ∷ []) rows

@@ -8,7 +8,7 @@ use Rattle.sqlite.specs.Effect.{Database}
 use Rattle.sqlite.proofs.Callers.{one_permutation}
 use Rattle.sqlite.specs.Schema.{Schema}
 use Rattle.gd_archive_store.specs.Tables.{version_2, HasArchive}
-use Rattle.gd_archive_store.specs.Kept.{versions_of, HasVersion}
+use Rattle.gd_archive_store.specs.Contents.{versions_of, HasVersion}
 
 single : (rows : List Row) (row : Row) (n : ℤ) → map (λ r. column r 2 ∷ []) rows ≡ row ∷ [] → column row 0 ≡ Int n → map (λ r. column r 2 ∷ []) rows ≡ (Int n ∷ []) ∷ []
 single [] row n h e = absurd cc

@@ -6,7 +6,7 @@ use Rattle.sqlite_resolve.specs.declared.compiled.Compiled.{Compiled}
 use Rattle.sqlite.specs.declared.error.Error.{Error}
 use Rattle.sqlite.specs.declared.error.Error.TheVariants.{ExecuteReturnedResults}
 use Rattle.sqlite.specs.State.{State, IsNotRun, IsUnchanged, RunsCommand, Executes, ExecutesIn, FailsToQuery, FailsToShow}
-use Rattle.gd_archive_store.specs.Kept.{IsRefused}
+use Rattle.gd_archive_store.specs.Contents.{IsRefused}
 
 not_run : (old new : State) (sql : List ℕ) (params : Row) (e : Error) → IsNotRun old new sql params e → IsRefused old new
 unfolding IsNotRun

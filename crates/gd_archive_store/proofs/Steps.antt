@@ -22,7 +22,7 @@ use Rattle.sqlite.proofs.Callers.{IsPlain, command_of, statement_of, runs_as, re
 use Rattle.gd_archive_store.specs.Tables.{archive, only_archive, version_1, version_2}
 use Rattle.sqlite.specs.declared.error.Error.{Error}
 use Rattle.gd_archive_store.specs.Calls.{IsCompleted}
-use Rattle.gd_archive_store.specs.Kept.{HasVersion, shown_old, old_rows_of}
+use Rattle.gd_archive_store.specs.Contents.{HasVersion, shown_old, old_rows_of}
 use Rattle.gd_archive_store.proofs.Inserting.{went, same_value, cast_int, cast_null}
 use Rattle.std.specs.List.{flat_map, list_all}
 use Rattle.sqlite.specs.Term.{holds}

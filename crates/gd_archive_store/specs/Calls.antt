@@ -4,8 +4,8 @@ use Rattle.sqlite.specs.declared.types.Value.{Value}
 use Rattle.sqlite.specs.Order.{Row}
 use Rattle.sqlite.specs.State.{State}
 use Rattle.gd_archive_store.specs.Tables.{no_schema, version_2}
-use Rattle.gd_archive_store.specs.Kept.{kept_at, rows_of, old_rows_of, IsAscending, HasVersion, IsArchive, IsEntered, IsSame}
-use Rattle.gd_archive_store.specs.Carried.{IsBuilt, IsMigrated}
+use Rattle.gd_archive_store.specs.Contents.{kept_at, rows_of, old_rows_of, IsAscending, HasVersion, IsArchive, IsEntered, IsSame}
+use Rattle.gd_archive_store.specs.Migration.{IsBuilt, IsMigrated}
 use Rattle.gd_archive_store.specs.declared.fault.StoreFault.{StoreFault}
 use Rattle.gd_archive_store.specs.declared.fault.StoreFault.TheVariants as store_fault
 use Rattle.gd_archive_store.specs.declared.fault.KeepFault.{KeepFault}

@@ -1,4 +1,4 @@
 pub mod Tables
-pub mod Kept
-pub mod Carried
+pub mod Contents
+pub mod Migration
 pub mod Calls

@@ -4,8 +4,8 @@ ghost use Rattle.std.specs.Prelude.{◌≡◌, Ok, Err, [], false, IsTrue, IfOk,
 ghost use Rattle.sqlite.specs.Held.{state};
 ghost use Rattle.sqlite.specs.State.{HasCleanDisk, IsUnchanged, KeepsCommit, Executes};
 ghost use Rattle.gd_archive_store.specs.Tables.{no_schema, version_2};
-ghost use Rattle.gd_archive_store.specs.Kept.{IsRefused, IsSame};
-ghost use Rattle.gd_archive_store.specs.Carried.{IsBuilt};
+ghost use Rattle.gd_archive_store.specs.Contents.{IsRefused, IsSame};
+ghost use Rattle.gd_archive_store.specs.Migration.{IsBuilt};
 ghost use Rattle.gd_archive_store.specs.Calls.{IsMade, IsCompleted, Makes};
 
 use crate::fault::StoreFault;

@@ -9,8 +9,8 @@ ghost use Rattle.sqlite.specs.Kind.TheVariants.{Integer};
 ghost use Rattle.sqlite.specs.Held.{state};
 ghost use Rattle.sqlite.specs.State.{HasCleanDisk, IsUnchanged, KeepsCommit};
 ghost use Rattle.gd_archive_store.specs.Tables.{no_schema, version_1, version_2};
-ghost use Rattle.gd_archive_store.specs.Kept.{old_rows_of, IsSame};
-ghost use Rattle.gd_archive_store.specs.Carried.{IsBuilt, IsOneMore, IsMore, IsMigrated, carried};
+ghost use Rattle.gd_archive_store.specs.Contents.{old_rows_of, IsSame};
+ghost use Rattle.gd_archive_store.specs.Migration.{IsBuilt, IsOneMore, IsMore, IsMigrated, carried};
 ghost use Rattle.gd_archive_store.specs.Calls.{Migrates};
 
 use crate::build::{build_tables, run};

@@ -4,7 +4,7 @@ ghost use Rattle.std.specs.Prelude.{◌≡◌, Err, IsTrue, false, OnOk, OnErr};
 ghost use Rattle.sqlite.specs.Held.{state};
 ghost use Rattle.sqlite.specs.State.{HasCleanDisk};
 ghost use Rattle.gd_archive_store.specs.Tables.{version_2};
-ghost use Rattle.gd_archive_store.specs.Kept.{entry, IsEntered, IsRefused};
+ghost use Rattle.gd_archive_store.specs.Contents.{entry, IsEntered, IsRefused};
 ghost use Rattle.gd_archive_store.specs.Calls.{Keeps};
 
 use crate::fault::KeepFault;

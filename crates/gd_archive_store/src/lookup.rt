@@ -4,7 +4,7 @@ ghost use Rattle.std.specs.Prelude.{◌≡◌, Err, IsTrue, IfOk, IfErr, OnErr, 
 ghost use Rattle.sqlite.specs.Held.{state};
 ghost use Rattle.sqlite.specs.State.{HasCleanDisk, IsUnchanged};
 ghost use Rattle.gd_archive_store.specs.Tables.{version_2};
-ghost use Rattle.gd_archive_store.specs.Kept.{kept_at, rows_of, IsAscending, IsRefused};
+ghost use Rattle.gd_archive_store.specs.Contents.{kept_at, rows_of, IsAscending, IsRefused};
 ghost use Rattle.gd_archive_store.specs.Calls.{Finds, IsListed, IsStopped};
 
 use crate::fault::StoreFault;

@@ -4,7 +4,7 @@ ghost use Rattle.std.specs.Prelude.{◌≡◌, Err, IsTrue, IfOk, OnOk, OnErr, I
 ghost use Rattle.sqlite.specs.Held.{state};
 ghost use Rattle.sqlite.specs.State.{HasCleanDisk, IsUnchanged};
 ghost use Rattle.gd_archive_store.specs.Tables.{HasArchive};
-ghost use Rattle.gd_archive_store.specs.Kept.{versions_of, HasVersion, IsArchive, IsOf, IsRefused, IsSettled, IsSame};
+ghost use Rattle.gd_archive_store.specs.Contents.{versions_of, HasVersion, IsArchive, IsOf, IsRefused, IsSettled, IsSame};
 ghost use Rattle.gd_archive_store.specs.Calls.{IsStopped};
 
 use crate::fault::{StoreFault, Version};

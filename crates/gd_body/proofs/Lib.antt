@@ -1,3 +1,3 @@
 pub mod Parts
 pub mod Reading
-pub mod Written
+pub mod RowLists

@@ -7,7 +7,7 @@ use Rattle.gd_cost.specs.Parts.{list_of, first_of, second_of}
 use Rattle.gd_cost.specs.declared.lex.Lex.{Lex}
 use Rattle.gd_cost.specs.declared.pair.Pair.{Pair}
 use Rattle.gd_system.specs.Pipeline.{Pipeline}
-use Rattle.gd_question.specs.Posed.{Posed}
+use Rattle.gd_question.specs.Posing.{Posed}
 use Rattle.gd_board.specs.declared.posting.Posting.{Posting}
 use Rattle.gd_text_part.specs.Rows.{◌>>=◌}
 use Rattle.gd_text_part.specs.declared.fault.TextFault.{TextFault}

@@ -11,7 +11,7 @@ use Rattle.gd_cost.specs.declared.lex.Lex.{Lex}
 use Rattle.gd_cost.specs.declared.pair.Pair.{Pair}
 use Rattle.gd_system.specs.Pipeline.{Pipeline, elements_of, names_of, operator_at, capacity_of}
 use Rattle.gd_system.specs.Route.{element_at}
-use Rattle.gd_question.specs.Posed.{Posed}
+use Rattle.gd_question.specs.Posing.{Posed}
 use Rattle.gd_board.specs.declared.posting.Posting.{Posting}
 use Rattle.gd_text_part.specs.declared.row.TheConstants.{FIELD_COUNT}
 

@@ -41,7 +41,9 @@ pub fn body_of(alloc: Global, posting: &Posting) -> Result<Vec<u8>, BodyFault>
 {
     let body = text_of(alloc, posting)?.into_bytes();
     let back = read_body(alloc, &body)?;
-    if same_posting(posting, &back) {
+    let same = same_posting(posting, &back);
+    drop(back);
+    if same {
         Ok(body)
     } else {
         Err(BodyFault::Damaged)

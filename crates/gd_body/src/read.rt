@@ -39,8 +39,20 @@ fn posting_of(alloc: Global, rows: &[Row]) -> Result<Posting, TextFault>
     ensures { Builds (λ posting. posting) result (spec.posting_of rows.now) }
 {
     let Asked { question, schedule } = asked_of(alloc, rows)?;
-    let prices = tariffs_of(alloc, rows, question.system())?;
-    let bumped = bumped_of(alloc, rows)?;
+    let prices = match tariffs_of(alloc, rows, question.system()) {
+        Ok(prices) => prices,
+        Err(fault) => {
+            drop(question);
+            drop(schedule);
+            return Err(fault);
+        }
+    };
+    let Ok(bumped) = bumped_of(alloc, rows) else {
+        drop(question);
+        drop(schedule);
+        drop(prices);
+        return Err(TextFault::OutOfMemory);
+    };
     Ok(Posting {
         book: question.book(),
         cycle: question.cycle(),

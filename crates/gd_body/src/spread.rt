@@ -30,6 +30,30 @@ fn first_of_all(alloc: Global, prices: &[Tariff]) -> Result<Vec<Tariff>, AllocEr
 pub fn without_spread(alloc: Global, posting: Posting) -> Result<Posting, AllocError>
     ensures { IfOk result (λ kept. kept ≡ spec.without_spread posting) }
 {
-    let prices = Prices::of(first_of_all(alloc, posting.prices.values())?);
-    Ok(Posting { prices, ..posting })
+    let values = match first_of_all(alloc, posting.prices.values()) {
+        Ok(values) => values,
+        Err(fault) => {
+            drop(posting);
+            return Err(fault);
+        }
+    };
+    let Posting {
+        book,
+        cycle,
+        round,
+        question,
+        schedule,
+        prices,
+        bumped,
+    } = posting;
+    drop(prices);
+    Ok(Posting {
+        book,
+        cycle,
+        round,
+        question,
+        schedule,
+        prices: Prices::of(values),
+        bumped,
+    })
 }

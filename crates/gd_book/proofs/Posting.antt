@@ -10,7 +10,7 @@ use Rattle.gd_machine.specs.declared.event.Event.TheVariants as event
 use Rattle.gd_machine.specs.declared.reply.Reply.{Reply}
 use Rattle.gd_machine.specs.Day.{Day}
 use Rattle.gd_machine.specs.History.{History, cycle_of}
-use Rattle.gd_book.specs.Posted.{AllPosted, IsPosted, Posts}
+use Rattle.gd_book.specs.Postings.{AllPosted, IsPosted, Posts}
 use Rattle.gd_book.proofs.Legal.{at_more}
 
 -- what is known as before stays known

@@ -1,3 +1,3 @@
 pub mod Kept
-pub mod Posted
-pub mod Replayed
+pub mod Postings
+pub mod Replay

@@ -4,12 +4,12 @@ ghost use Rattle.std.specs.Prelude.{◌≡◌, ℕ, [], ◌≤◌, true, false, 
 ghost use Rattle.std.specs.Option.{MatchOption};
 ghost use Rattle.gd_board.specs.Known.{known_of};
 ghost use Rattle.gd_machine.specs.History.{cycle_of, is_frozen, session_calls};
-ghost use Rattle.gd_machine.specs.Asked.{accepted, question};
+ghost use Rattle.gd_machine.specs.Asking.{accepted, question};
 ghost use Rattle.gd_machine.specs.Headline.{Holds};
 ghost use Rattle.gd_machine.specs.Machine.{Step, IsLegal, AllPass, refusal_of, reply_of, Passes};
 ghost use Rattle.gd_machine.specs.declared.event.Event.TheVariants as event;
 ghost use Rattle.gd_book_part.specs.Names.{ExplainsOpen};
-ghost use Rattle.gd_book.specs.Posted.{AllPosted, IsPosted};
+ghost use Rattle.gd_book.specs.Postings.{AllPosted, IsPosted};
 
 use crate::ledger::Ledger;
 use crate::replay::Replay;
@@ -307,7 +307,16 @@ impl Book {
             ≡ refusal_of self.now.day (take length self.now.history) event.now) }
     {
         let mut replay = self.replay()?;
-        replay.go_to(length)?;
-        Ok(replay.refusal(event))
+        match replay.go_to(length) {
+            Ok(()) => {
+                let refusal = replay.refusal(event);
+                drop(replay);
+                Ok(refusal)
+            }
+            Err(fault) => {
+                drop(replay);
+                Err(fault)
+            }
+        }
     }
 }

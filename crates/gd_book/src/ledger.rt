@@ -7,7 +7,7 @@ ghost use Rattle.gd_machine.specs.History.{cycle_of};
 ghost use Rattle.gd_machine.specs.Machine.{Step, MayRefuse, Passes, IsPublish, refusal_of, reply_of};
 ghost use Rattle.gd_machine.specs.declared.event.Event.TheVariants as event;
 ghost use Rattle.gd_book.specs.Kept.{IsKept};
-ghost use Rattle.gd_book.specs.Posted.{AllPosted, Posts, Tells};
+ghost use Rattle.gd_book.specs.Postings.{AllPosted, Posts, Tells};
 
 use gd_board::{Board, BoardNote, Posting};
 use gd_book_part::{Opening, Tables};
@@ -32,12 +32,17 @@ impl Ledger {
         ensures empty { IfOk result (λ ledger. ledger.history.items ≡ []) }
     {
         opening.known();
-        let tables = Tables::new(alloc, &opening)?;
-        Ok(Ledger {
-            opening,
-            tables,
-            history: Vec::new(alloc),
-        })
+        match Tables::new(alloc, &opening) {
+            Ok(tables) => Ok(Ledger {
+                opening,
+                tables,
+                history: Vec::new(alloc),
+            }),
+            Err(fault) => {
+                drop(opening);
+                Err(fault)
+            }
+        }
     }
 
     /// The first refusal of an event, or else room for it in the history.
@@ -119,16 +124,38 @@ impl Ledger {
         else {
             unreachable!();
         };
+        let question = certificate.question().try_clone(alloc)?;
+        let Ok(schedule) = certificate.schedule().try_clone(alloc) else {
+            drop(question);
+            return Err(AllocError);
+        };
+        let Ok(prices) = certificate.prices().try_clone(alloc) else {
+            drop(question);
+            drop(schedule);
+            return Err(AllocError);
+        };
+        let Ok(bumped) = bumped.try_clone(alloc) else {
+            drop(question);
+            drop(schedule);
+            drop(prices);
+            return Err(AllocError);
+        };
         let posting = Posting {
             book: self.opening.name(),
             cycle: *cycle,
             round: *round,
-            question: certificate.question().try_clone(alloc)?,
-            schedule: certificate.schedule().try_clone(alloc)?,
-            prices: certificate.prices().try_clone(alloc)?,
-            bumped: bumped.try_clone(alloc)?,
+            question,
+            schedule,
+            prices,
+            bumped,
         };
-        Ok((*cycle, Box::new(alloc, posting)?))
+        match Box::new(alloc, posting) {
+            Ok(posting) => Ok((*cycle, posting)),
+            Err(refused) => {
+                drop(refused);
+                Err(AllocError)
+            }
+        }
     }
 
     /// Enters an accepted publish, for which there is room. It can't fail.

@@ -21,7 +21,7 @@ pub struct Replay<'b> {
 }
 
 impl<'b> Model for Replay<'b> {
-    ghost use Rattle.gd_book.specs.Replayed.{Place, AreReplayed};
+    ghost use Rattle.gd_book.specs.Replay.{Place, AreReplayed};
 
     ghost Value = { Place };
 

@@ -12,8 +12,8 @@ use Rattle.gd_rules.specs.Question.Element.{Pool}
 use Rattle.gd_system.specs.Pipeline.{Pipeline, elements_of}
 use Rattle.gd_system.specs.Route.{element_at, ends_of}
 use Rattle.gd_system.specs.Known.{IsSystem}
-use Rattle.gd_question.specs.Posed.{Posed, with_limit, limit_fault, with_capacity, changed, after_capacity, line_within, lengthened, after_line}
-use Rattle.gd_question.specs.Posed as question
+use Rattle.gd_question.specs.Posing.{Posed, with_limit, limit_fault, with_capacity, changed, after_capacity, line_within, lengthened, after_line}
+use Rattle.gd_question.specs.Posing as question
 use Rattle.gd_question.specs.declared.fault.LineFault.{LineFault}
 use Rattle.gd_question.specs.declared.fault.LineFault.TheVariants.{FloorAboveCeiling, BadClass, TooMany}
 use Rattle.gd_system.specs.declared.part.Ends.{Ends}
@@ -24,8 +24,8 @@ use Rattle.gd_question.proofs.InForceLemmas.{length-in_force, in_force-past}
 use Rattle.gd_question.proofs.Limits.{length-elements, limits_first, fault_none}
 use Rattle.gd_machine.specs.Day.{Day}
 use Rattle.gd_machine.specs.History.{History}
-use Rattle.gd_machine.specs.Asked.{key_of, class_of, floor_of, confirmed_of, line_over, line_of}
-use Rattle.gd_machine.specs.Asked as asked
+use Rattle.gd_machine.specs.Asking.{key_of, class_of, floor_of, confirmed_of, line_over, line_of}
+use Rattle.gd_machine.specs.Asking as asked
 use Rattle.gd_book_part.specs.Asking.{with_line, with_capacities, asked_until}
 
 -- two tests after one another

@@ -7,7 +7,7 @@ use Rattle.std.specs.Prelude.{not, nat_lt}
 use Rattle.std.proofs.lemmas.List.Sums.{prefix_len-le-length}
 use Rattle.std.proofs.lemmas.List.Quantifiers.{position-Some}
 use Rattle.gd_system.proofs.Positions.{is_some-position}
-use Rattle.gd_lines.specs.Numbered.{nomination}
+use Rattle.gd_lines.specs.Numbering.{nomination}
 use Rattle.std.specs.Cmp.{IsEquivalence}
 use Rattle.std.proofs.lemmas.Bool.{le-leb, ltb-false, false≢true}
 use Rattle.std.proofs.lemmas.Map.Keys.{IsDistinct-push}

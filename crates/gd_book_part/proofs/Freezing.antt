@@ -6,13 +6,13 @@ use Rattle.std.proofs.lemmas.List.{append-nil}
 use Rattle.std.proofs.lemmas.List.Sums.{sum_by-append}
 use Rattle.gd_rules.specs.Lines.{until}
 use Rattle.gd_system.specs.Pipeline.{elements_of}
-use Rattle.gd_question.specs.Posed.{Posed}
+use Rattle.gd_question.specs.Posing.{Posed}
 use Rattle.gd_machine.specs.declared.event.Event.{Event}
 use Rattle.gd_machine.specs.declared.event.Event.TheVariants.{Freeze}
 use Rattle.gd_machine.specs.declared.reply.Reply.{Reply}
 use Rattle.gd_machine.specs.Day.{Day}
 use Rattle.gd_machine.specs.History.{History, cycle_of, round_of, is_session_call, session_calls}
-use Rattle.gd_machine.specs.Asked.{nominations, counted, question}
+use Rattle.gd_machine.specs.Asking.{nominations, counted, question}
 use Rattle.gd_machine.specs.Machine.{tests_of, refusal_of}
 use Rattle.gd_machine.proofs.Legal.{all_false}
 use Rattle.gd_machine.proofs.Steps.{stamp_more, frozen_more, cut_more, waived_more, response_more, elements_more, schedules_more}

@@ -11,7 +11,7 @@ use Rattle.gd_machine.specs.declared.event.Event.TheVariants.{Nominate}
 use Rattle.gd_machine.specs.declared.reply.Reply.{Reply}
 use Rattle.gd_machine.specs.Day.{Day}
 use Rattle.gd_machine.specs.History.{History}
-use Rattle.gd_machine.specs.Asked.{nominations, accepted}
+use Rattle.gd_machine.specs.Asking.{nominations, accepted}
 use Rattle.gd_machine.specs.Machine.{tests_of, refusal_of}
 use Rattle.gd_machine.proofs.Legal.{AllFalse, all_false}
 use Rattle.gd_machine.proofs.Steps.{stamp_more, frozen_more, cut_more, waived_more, response_more, elements_more, schedules_more}
@@ -28,14 +28,14 @@ use Rattle.std.specs.List.{position_or_len, list_any}
 use Rattle.std.specs.Option.{unwrap_or}
 use Rattle.std.proofs.lemmas.List.Sums.{prefix_len-le-length, sum_by-append}
 use Rattle.gd_rules.specs.Lines.{Key, same_key, entered}
-use Rattle.gd_lines.specs.Numbered.{nomination, numbered}
+use Rattle.gd_lines.specs.Numbering.{nomination, numbered}
 use Rattle.gd_lines.proofs.Accept.{line_is}
 use Rattle.gd_lines.proofs.Pushed.{lines_push}
 use Rattle.gd_system.proofs.Positions.{is_some-position}
-use Rattle.gd_question.specs.Posed.{Posed}
+use Rattle.gd_question.specs.Posing.{Posed}
 use Rattle.gd_machine.specs.Day.{cycle_at}
 use Rattle.gd_machine.specs.History.{stamp_of}
-use Rattle.gd_machine.specs.Asked.{class_in}
+use Rattle.gd_machine.specs.Asking.{class_in}
 use Rattle.gd_machine.specs.Known.{IsSound, IsClassed}
 use Rattle.gd_machine.specs.Machine.{number_of, line_number}
 use Rattle.gd_machine.proofs.Nominated.{is_nominated, is_classed}

@@ -23,7 +23,7 @@ use Rattle.gd_book_part.specs.Kept.{AreTablesOf}
 use Rattle.gd_book_part.specs.declared.tables.Tables.{Tables}
 use Rattle.gd_question.proofs.InForceLemmas.{in_force-set}
 use Rattle.gd_question.proofs.Limits.{pools_last}
-use Rattle.gd_question.specs.Posed.{limit_fault}
+use Rattle.gd_question.specs.Posing.{limit_fault}
 use Rattle.gd_question.specs.Known.{limit_of}
 use Rattle.gd_rules.specs.Question.Element.{Segment, Receipt, Delivery, Pool}
 use Rattle.gd_machine.specs.Day.{IsDay}

@@ -1,7 +1,7 @@
 -- A test that is true exactly where two questions are one is the test of the machine.
 use Rattle.std.proofs.Common.{◌≡◌, ◌↔◌, IsTrue, Bool, true, false, refl, sym, ap, ◌∙◌}
 use Rattle.std.proofs.lemmas.Bool.{false≢true}
-use Rattle.gd_question.specs.Posed.{Posed}
+use Rattle.gd_question.specs.Posing.{Posed}
 use Rattle.gd_machine.specs.Same.{same_question}
 use Rattle.gd_machine.proofs.Same.{same_tells, same_self}
 

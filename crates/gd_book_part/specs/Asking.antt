@@ -3,11 +3,11 @@ use Rattle.std.specs.Prelude.{ℕ, List, [], ◌∷◌, ◌++◌, map}
 use Rattle.std.specs.List.{range_with_len}
 use Rattle.gd_rules.specs.Question.{Line}
 use Rattle.gd_system.specs.Pipeline.{elements_of}
-use Rattle.gd_question.specs.Posed.{Posed}
+use Rattle.gd_question.specs.Posing.{Posed}
 use Rattle.gd_question.specs.InForce.{in_force}
 use Rattle.gd_machine.specs.Day.{Day}
 use Rattle.gd_machine.specs.History.{History}
-use Rattle.gd_machine.specs.Asked.{question, line_of}
+use Rattle.gd_machine.specs.Asking.{question, line_of}
 
 -- The question with one line more.
 abbrev pub with_line : Posed → Line → Posed

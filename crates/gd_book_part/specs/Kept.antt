@@ -3,14 +3,14 @@ use Rattle.std.specs.Prelude.{◌≡◌, ℕ, zero, suc, ◌+◌, ◌-◌, ◌*�
 use Rattle.gd_rules.specs.Limits.{most_dekatherms, cycles}
 use Rattle.gd_rules.specs.Lines.{lines_of}
 use Rattle.gd_system.specs.Pipeline.{elements_of}
-use Rattle.gd_question.specs.Posed.{Posed}
+use Rattle.gd_question.specs.Posing.{Posed}
 use Rattle.gd_question.specs.InForce.{in_force}
 use Rattle.gd_certificate.specs.Checked.{Certificate}
 use Rattle.gd_machine.specs.declared.event.Event.TheVariants.{Publish}
 use Rattle.gd_machine.specs.declared.reply.Reply.{Reply}
 use Rattle.gd_machine.specs.Day.{Day}
 use Rattle.gd_machine.specs.History.{History, last_stamp, cycle_of, round_of, is_frozen, has_cut, schedules, elements_in_force, session_calls}
-use Rattle.gd_machine.specs.Asked.{nominations, accepted, question}
+use Rattle.gd_machine.specs.Asking.{nominations, accepted, question}
 use Rattle.gd_book_part.specs.Confirmed.{Tells, nothing}
 use Rattle.gd_book_part.specs.declared.tables.Tables.{Tables}
 

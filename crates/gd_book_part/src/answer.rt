@@ -3,7 +3,7 @@
 ghost use Rattle.std.specs.Prelude.{◌≡◌, ◌+◌, ◌-◌, ◌<◌, ◌≤◌, None, IfOk, length};
 ghost use Rattle.gd_rules.specs.Schedule.{quantity};
 ghost use Rattle.gd_machine.specs.History.{cycle_of, round_of, scheduled};
-ghost use Rattle.gd_machine.specs.Asked.{line_count, former_of, bumped_lines};
+ghost use Rattle.gd_machine.specs.Asking.{line_count, former_of, bumped_lines};
 ghost use Rattle.gd_machine.specs.Known.{IsSound};
 ghost use Rattle.gd_machine.specs.Machine.{refusal_of, reply_of, number_of, line_number};
 ghost use Rattle.gd_machine.specs.declared.event.Event.TheVariants as event;

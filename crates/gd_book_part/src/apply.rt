@@ -2,7 +2,7 @@
 
 ghost use Rattle.std.specs.Prelude.{◌≡◌, ℕ, ◌+◌, ◌-◌, get_or, ◌<◌, ◌≤◌, max, ◌++◌, ◌∷◌, [], None, length, OnOk, OnErr};
 ghost use Rattle.gd_machine.specs.History.{cycle_of, schedules};
-ghost use Rattle.gd_machine.specs.Asked.{line_count};
+ghost use Rattle.gd_machine.specs.Asking.{line_count};
 ghost use Rattle.gd_machine.specs.Known.{IsSound};
 ghost use Rattle.gd_machine.specs.Machine.{refusal_of, reply_of};
 ghost use Rattle.gd_machine.specs.declared.event.Event.TheVariants as event;

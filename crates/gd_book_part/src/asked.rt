@@ -7,7 +7,7 @@ ghost use Rattle.gd_system.specs.Pipeline.{elements_of};
 ghost use Rattle.gd_system.specs.Route.{ends_of};
 ghost use Rattle.gd_system.specs.Known.{IsSystem};
 ghost use Rattle.gd_machine.specs.History.{cycle_of, response_of, is_waived};
-ghost use Rattle.gd_machine.specs.Asked.{line_count, key_of, class_of, line_over, former_of, elapsed_of, nominated_of, confirmed_of, floor_of, class_in, question};
+ghost use Rattle.gd_machine.specs.Asking.{line_count, key_of, class_of, line_over, former_of, elapsed_of, nominated_of, confirmed_of, floor_of, class_in, question};
 ghost use Rattle.gd_machine.specs.Known.{IsSound, IsClassed, flowed_until};
 ghost use Rattle.gd_machine.specs.Machine.{refusal_of};
 ghost use Rattle.gd_machine.specs.declared.event.Event.TheVariants as event;
@@ -312,7 +312,13 @@ impl Tables {
         let mut builder = self.blank(alloc, opening, history, cycle, round)?;
         for line in 0..count {
             let terms = self.terms_of(opening, history, cycle, line);
-            put_line(&mut builder, terms)?;
+            match put_line(&mut builder, terms) {
+                Ok(()) => {}
+                Err(fault) => {
+                    drop(builder);
+                    return Err(fault);
+                }
+            }
         }
         Ok(builder.finish())
     }

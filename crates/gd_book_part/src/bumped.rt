@@ -4,7 +4,7 @@ ghost use Rattle.std.specs.Prelude.{◌≡◌, ◌-◌, ◌<◌, nat_lt, None, I
 ghost use Rattle.gd_rules.specs.Bounds as bounds;
 ghost use Rattle.gd_rules.specs.Schedule.{quantity};
 ghost use Rattle.gd_machine.specs.History.{cycle_of};
-ghost use Rattle.gd_machine.specs.Asked.{line_count, bumped_by, bumped_lines};
+ghost use Rattle.gd_machine.specs.Asking.{line_count, bumped_by, bumped_lines};
 ghost use Rattle.gd_machine.specs.Known.{IsSound};
 ghost use Rattle.gd_machine.specs.Machine.{refusal_of, reply_of};
 ghost use Rattle.gd_machine.specs.declared.event.Event.TheVariants as event;

@@ -126,13 +126,21 @@ impl Opening {
         contracts.known();
         calendar.known();
         match carry_of(alloc, &carry) {
-            Ok(carry) => Ok(Opening {
-                name,
-                contracts,
-                calendar,
-                carry,
-            }),
-            Err(fault) => Err(fault),
+            Ok(entries) => {
+                drop(carry);
+                Ok(Opening {
+                    name,
+                    contracts,
+                    calendar,
+                    carry: entries,
+                })
+            }
+            Err(fault) => {
+                drop(contracts);
+                drop(calendar);
+                drop(carry);
+                Err(fault)
+            }
         }
     }
 

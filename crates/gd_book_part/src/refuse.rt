@@ -4,11 +4,11 @@ ghost use Rattle.std.specs.Prelude.{◌≡◌, ◌+◌, ◌<◌, ◌≤◌, max,
 ghost use Rattle.gd_machine.specs.Day.{deadline};
 ghost use Rattle.gd_machine.specs.History.{stamp_of, cycle_of, round_of, is_frozen, has_cut};
 ghost use Rattle.std.specs.Result.{is_err};
-ghost use Rattle.gd_lines.specs.Numbered.{numbered};
+ghost use Rattle.gd_lines.specs.Numbering.{numbered};
 ghost use Rattle.gd_rules.specs.Lines.{of_line, last_quantity};
 ghost use Rattle.gd_machine.specs.Same.{same_question};
-ghost use Rattle.gd_machine.specs.Asked.{line_count, nominations, question};
-ghost use Rattle.gd_machine.specs.Asked as asked;
+ghost use Rattle.gd_machine.specs.Asking.{line_count, nominations, question};
+ghost use Rattle.gd_machine.specs.Asking as asked;
 ghost use Rattle.gd_machine.specs.Known.{IsSound};
 ghost use Rattle.gd_machine.specs.Machine as machine;
 ghost use Rattle.gd_machine.specs.Machine.{refusal_of, committed_with};

@@ -4,7 +4,7 @@ ghost use Rattle.std.specs.Prelude.{◌≡◌, [], IfOk};
 ghost use Rattle.gd_question.specs.Rows.{AreOwn};
 ghost use Rattle.std.specs.Option.{option_map};
 ghost use Rattle.gd_machine.specs.History.{History, cycle_of, round_of, is_frozen, session_calls};
-ghost use Rattle.gd_machine.specs.Asked.{question, accepted};
+ghost use Rattle.gd_machine.specs.Asking.{question, accepted};
 ghost use Rattle.gd_book_part.specs.Kept.{AreTablesOf};
 
 use crate::confirmations::Confirmation;

@@ -169,11 +169,26 @@ fn opened(alloc: Global) -> Result<Book, Fault> {
     book(alloc, 100, Vec::new(alloc))
 }
 
-/// Makes the calls of the day on a book, which is opened once more where it finds no memory.
-pub(crate) fn run(rt: &(impl Threads + Print + Sync), alloc: Global) -> Result<(), Fault> {
-    let board = Board::new(alloc);
+/// Makes the calls of the day on a book, which is opened once more where it finds no memory, beside a board.
+fn run_beside(
+    rt: &(impl Threads + Print + Sync),
+    alloc: Global,
+    board: &Board,
+) -> Result<(), Fault> {
     match opened(alloc).or_else(|_| opened(alloc)) {
-        Ok(mut book) => steps(rt, alloc, &mut book, &board),
+        Ok(mut book) => {
+            let told = steps(rt, alloc, &mut book, board);
+            drop(book);
+            told
+        }
         Err(fault) => Err(fault),
     }
+}
+
+/// Makes the calls of the day on a book with its board.
+pub(crate) fn run(rt: &(impl Threads + Print + Sync), alloc: Global) -> Result<(), Fault> {
+    let board = Board::new(alloc);
+    let told = run_beside(rt, alloc, &board);
+    drop(board);
+    told
 }

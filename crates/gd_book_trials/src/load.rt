@@ -57,7 +57,11 @@ fn time_events(rt: &(impl Clock + Print), book: &mut Book) -> Result<(), Fault> 
 pub(crate) fn events(rt: &(impl Clock + Print), alloc: Global) -> Result<(), Fault> {
     println!(rt; "bytes {EVENT_BYTES}")?;
     match book(alloc, 100, Vec::new(alloc)) {
-        Ok(mut book) => time_events(rt, &mut book),
+        Ok(mut book) => {
+            let told = time_events(rt, &mut book);
+            drop(book);
+            told
+        }
         Err(fault) => Err(fault),
     }
 }
@@ -65,18 +69,31 @@ pub(crate) fn events(rt: &(impl Clock + Print), alloc: Global) -> Result<(), Fau
 /// The line of this number.
 fn key(alloc: Global, number: usize) -> Result<LineKey, Fault> {
     let package = format!(in alloc; "P{number}")?;
-    line(package.as_str())
+    let key = line(package.as_str());
+    drop(package);
+    key
 }
 
-/// As many lines as there can be, each of as many dekatherms as are nominated last.
-fn carried(alloc: Global) -> Result<Vec<(LineKey, Dth)>, Fault> {
+/// Adds as many lines as there can be, each of as many dekatherms as are nominated last.
+fn carry(alloc: Global, lines: &mut Vec<(LineKey, Dth)>) -> Result<(), Fault> {
     let quantity = dth(TIMES)?;
-    let mut lines = Vec::with_capacity(alloc, LINES)?;
     for number in 0..LINES {
         let carried = (key(alloc, number)?, quantity);
         lines.push(carried).map_err(|_| Fault::Unmade)?;
     }
-    Ok(lines)
+    Ok(())
+}
+
+/// As many lines as there can be, each of as many dekatherms as are nominated last.
+fn carried(alloc: Global) -> Result<Vec<(LineKey, Dth)>, Fault> {
+    let mut lines = Vec::with_capacity(alloc, LINES)?;
+    match carry(alloc, &mut lines) {
+        Ok(()) => Ok(lines),
+        Err(fault) => {
+            drop(lines);
+            Err(fault)
+        }
+    }
 }
 
 /// Nominates each line once, at this quantity.
@@ -149,7 +166,9 @@ fn time_lines(
     time_nominations(rt, book, lines)?;
     time_freeze(rt, book)?;
     let board = Board::new(alloc);
-    time_publish(rt, alloc, book, &board)
+    let told = time_publish(rt, alloc, book, &board);
+    drop(board);
+    told
 }
 
 /// A book with room for the lines, which carries them.
@@ -158,14 +177,29 @@ fn carrying(alloc: Global) -> Result<Book, Fault> {
     book(alloc, 100_000, lines)
 }
 
+/// Times nominations, a freeze and a publish of a book that carries the lines.
+fn time_carrying(
+    rt: &(impl Threads + Clock + Print + Sync),
+    alloc: Global,
+    lines: &[(LineKey, Dth)],
+) -> Result<(), Fault> {
+    match carrying(alloc) {
+        Ok(mut book) => {
+            let told = time_lines(rt, alloc, &mut book, lines);
+            drop(book);
+            told
+        }
+        Err(fault) => Err(fault),
+    }
+}
+
 /// Times nominations, a freeze and a publish of a book with as many lines as there can be.
 pub(crate) fn lines(
     rt: &(impl Threads + Clock + Print + Sync),
     alloc: Global,
 ) -> Result<(), Fault> {
     let lines = carried(alloc)?;
-    match carrying(alloc) {
-        Ok(mut book) => time_lines(rt, alloc, &mut book, lines.as_slice()),
-        Err(fault) => Err(fault),
-    }
+    let told = time_carrying(rt, alloc, lines.as_slice());
+    drop(lines);
+    told
 }

@@ -43,7 +43,10 @@ impl From<io::Error> for Fault {
 /// What is left of an answer, once the reply is dropped.
 pub(crate) fn done(answer: Result<Reply, Refusal>) -> Result<(), Fault> {
     match answer {
-        Ok(_reply) => Ok(()),
+        Ok(reply) => {
+            drop(reply);
+            Ok(())
+        }
         Err(refusal) => Err(Fault::Refused(refusal)),
     }
 }
@@ -93,10 +96,26 @@ fn add_elements(builder: &mut SystemBuilder, capacity: u64) -> Result<(), Fault>
     add_points(builder)
 }
 
+/// The system of a builder that has all its elements.
+fn finished(builder: SystemBuilder) -> Result<System, Fault> {
+    match builder.finish() {
+        Ok(system) => Ok(system),
+        Err(refused) => {
+            drop(refused);
+            Err(Fault::Unmade)
+        }
+    }
+}
+
 fn pipeline(alloc: Global, capacity: u64) -> Result<System, Fault> {
     let mut builder = SystemBuilder::new(alloc);
-    add_elements(&mut builder, capacity)?;
-    builder.finish().map_err(|_| Fault::Unmade)
+    match add_elements(&mut builder, capacity) {
+        Ok(()) => finished(builder),
+        Err(fault) => {
+            drop(builder);
+            Err(fault)
+        }
+    }
 }
 
 fn add_contract(contracts: &mut Contracts) -> Result<(), Fault> {
@@ -112,22 +131,34 @@ fn add_contract(contracts: &mut Contracts) -> Result<(), Fault> {
 
 fn contracts(alloc: Global, capacity: u64) -> Result<Contracts, Fault> {
     let mut contracts = Contracts::new(alloc, pipeline(alloc, capacity)?);
-    add_contract(&mut contracts)?;
-    Ok(contracts)
+    match add_contract(&mut contracts) {
+        Ok(()) => Ok(contracts),
+        Err(fault) => {
+            drop(contracts);
+            Err(fault)
+        }
+    }
 }
 
 fn calendar(alloc: Global) -> Result<Calendar, Fault> {
     let day = GasDay::new(date(2026, 3, 8)).map_err(|_| Fault::Unmade)?;
     let zone = TimeZone::posix("CST6CDT,M3.2.0,M11.1.0").map_err(|_| Fault::Unmade)?;
-    Calendar::new(alloc, day, &zone).map_err(|_| Fault::Unmade)
+    let calendar = Calendar::new(alloc, day, &zone);
+    drop(zone);
+    calendar.map_err(|_| Fault::Unmade)
 }
 
 /// What a book opens with, but for the lines that are carried over.
 fn opening(alloc: Global, capacity: u64) -> Result<(Name, Contracts, Calendar), Fault> {
     let demo = name("DEMO")?;
     let calendar = calendar(alloc)?;
-    let contracts = contracts(alloc, capacity)?;
-    Ok((demo, contracts, calendar))
+    match contracts(alloc, capacity) {
+        Ok(contracts) => Ok((demo, contracts, calendar)),
+        Err(fault) => {
+            drop(calendar);
+            Err(fault)
+        }
+    }
 }
 
 /// A book of the gas day 2026-03-08, with this capacity of S1 and a firm contract from R1 to D1.
@@ -136,6 +167,13 @@ pub(crate) fn book(
     capacity: u64,
     carry: Vec<(LineKey, Dth)>,
 ) -> Result<Book, Fault> {
-    let (demo, contracts, calendar) = opening(alloc, capacity)?;
-    Book::open(alloc, demo, contracts, calendar, carry).map_err(|_| Fault::Unmade)
+    match opening(alloc, capacity) {
+        Ok((demo, contracts, calendar)) => {
+            Book::open(alloc, demo, contracts, calendar, carry).map_err(|_| Fault::Unmade)
+        }
+        Err(fault) => {
+            drop(carry);
+            Err(fault)
+        }
+    }
 }

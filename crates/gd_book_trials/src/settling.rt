@@ -14,13 +14,20 @@ use std::thread::Threads;
 fn best(alloc: Global, question: &Question) -> Result<(Schedule, Prices<Tariff>), Fault> {
     match solve(alloc, question)? {
         Answer::Best(schedule, prices) => Ok((schedule, prices)),
-        Answer::Impossible(_) => Err(Fault::Unmade),
+        Answer::Impossible(cut) => {
+            drop(cut);
+            Err(Fault::Unmade)
+        }
     }
 }
 
 fn impossible(alloc: Global, question: &Question) -> Result<Cut, Fault> {
     match solve(alloc, question)? {
-        Answer::Best(..) => Err(Fault::Unmade),
+        Answer::Best(schedule, prices) => {
+            drop(schedule);
+            drop(prices);
+            Err(Fault::Unmade)
+        }
         Answer::Impossible(cut) => Ok(cut),
     }
 }
@@ -32,10 +39,19 @@ fn checked(
     question: &Question,
 ) -> Result<Checked, Fault> {
     let (schedule, prices) = best(alloc, question)?;
-    let question = question.try_clone(alloc)?;
-    // What the solver answers passes the check, but for want of memory.
-    let checked = check_par(rt, alloc, question, schedule, prices);
-    checked.map_err(|_| Fault::Refused(Refusal::OutOfMemory))
+    let Ok(question) = question.try_clone(alloc) else {
+        drop(schedule);
+        drop(prices);
+        return Err(Fault::Refused(Refusal::OutOfMemory));
+    };
+    match check_par(rt, alloc, question, schedule, prices) {
+        Ok(checked) => Ok(checked),
+        // What the solver answers passes the check, but for want of memory.
+        Err(refused) => {
+            drop(refused);
+            Err(Fault::Refused(Refusal::OutOfMemory))
+        }
+    }
 }
 
 /// A best schedule of the question that is frozen, checked.

@@ -39,7 +39,7 @@ received_rise moments count rises cycle low high =
 pub elapsed_whole : (moments : List ℕ) → get_or moments 16 0 ≡ get_or moments 10 0 + 18000 → get_or moments 22 0 ≡ get_or moments 10 0 + 32400 → get_or moments 27 0 ≡ get_or moments 10 0 + 46800 → IsElapsed moments
 unfolding place
 elapsed_whole moments a b c =
-    by_cycle (λ k. due moments k Effective ≡ start moments + 3600 * gas_day.elapsed k) (omega arith) (omega arith) a b c
+    by_cycle (λ k. due moments k Effective ≡ start moments + 3600 * gas_day.hours_over k) (omega arith) (omega arith) a b c
 
 pub elapsed_at : (moments : List ℕ) → IsElapsed moments → (get_or moments 16 0 ≡ get_or moments 10 0 + 18000) × (get_or moments 22 0 ≡ get_or moments 10 0 + 32400) × (get_or moments 27 0 ≡ get_or moments 10 0 + 46800)
 unfolding place

@@ -1,4 +1,4 @@
 pub mod Moments
 pub mod Places
 pub mod Calendars
-pub mod Rows
+pub mod Examples

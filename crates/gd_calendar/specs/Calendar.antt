@@ -32,7 +32,7 @@ Rises moments = (i : ℕ) → i + 1 < length moments → get_or moments i 0 < ge
 
 -- Each cycle takes effect whole hours after the start of the gas day: 0, 0, 5, 9 and 13.
 abbrev pub IsElapsed : List ℕ → Type 0
-IsElapsed moments = (cycle : ℕ) → 1 ≤ cycle → cycle ≤ 5 → due moments cycle Effective ≡ start moments + 3600 * gas_day.elapsed cycle
+IsElapsed moments = (cycle : ℕ) → 1 ≤ cycle → cycle ≤ 5 → due moments cycle Effective ≡ start moments + 3600 * gas_day.hours_over cycle
 
 -- The gas day has 23, 24 or 25 whole hours.
 abbrev pub HasLength : List ℕ → Type 0

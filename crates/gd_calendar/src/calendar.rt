@@ -231,7 +231,7 @@ impl Calendar {
         ensures received_rise { (cycle : ℕ) → 1 ≤ cycle → cycle < 5
             → due self.now cycle Received < due self.now (cycle + 1) Received }
         ensures elapsed_whole { (cycle : ℕ) → 1 ≤ cycle → cycle ≤ 5
-            → due self.now cycle Effective ≡ spec.start self.now + 3600 * gas_day.elapsed cycle }
+            → due self.now cycle Effective ≡ spec.start self.now + 3600 * gas_day.hours_over cycle }
     {
         let _ = &self.moments;
     }
@@ -274,7 +274,7 @@ impl Calendar {
 
     /// How many hours of the gas day are over when the cycle takes effect: 0, 0, 5, 9 or 13.
     pub fn elapsed(&self, cycle: CycleNo) -> u8
-        ensures is { result ≡ gas_day.elapsed cycle }
+        ensures is { result ≡ gas_day.hours_over cycle }
         ensures whole { due self.now cycle Effective ≡ spec.start self.now + 3600 * result }
         ensures bound { result ≤ 13 }
     {

@@ -2,5 +2,5 @@ pub mod Rise
 pub mod Paying
 pub mod Passing
 pub mod Searching
-mod Rows
+mod Examples
 pub mod Same

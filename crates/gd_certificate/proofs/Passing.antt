@@ -3,16 +3,17 @@ use Rattle.std.proofs.Common.{◌≡◌, ℕ, ◌<◌, subst, sym, List, ◌&&�
 use Rattle.std.specs.Prelude.{ℤ, pos, ◌^◌, OnOk, IfErr}
 use Rattle.std.specs.declared.result.Result.{Result}
 use Rattle.std.specs.declared.result.Result.TheVariants.{Ok, Err}
-use Rattle.gd_rules.specs.Scale.{Scale}
+use Rattle.gd_scale.specs.Scale.{Scale}
 use Rattle.gd_rules.specs.Question.{Question}
 use Rattle.gd_rules.specs.Schedule.{IsAllowed, HasBetterTotals}
 use Rattle.gd_rules.specs.Spread.{IsBest}
 use Rattle.gd_rules.specs.Priced.{price}
-use Rattle.gd_rules.specs.Tariff.{IsPricedByTariff, IsPricedByClasses}
-use Rattle.gd_rules.specs.Words.{tariff, tariff_unit, words, words_fit, both_fit, class_unit}
+use Rattle.gd_rules.specs.Tariff.{IsPricedByTariff, IsPricedByClasses, tariff, tariff_unit, class_unit}
+use Rattle.gd_scale.specs.Words.{words, words_fit, both_fit}
 use Rattle.gd_rules.proofs.Better as Better
 use Rattle.gd_rules.proofs.Duality as Duality
-use Rattle.gd_rules.proofs.Words.{words_lawful, class_falls}
+use Rattle.gd_scale.proofs.Words.{words_lawful}
+use Rattle.gd_rules.proofs.Tariff.{class_falls}
 use Rattle.gd_schedule.proofs.Faults.{broken}
 use Rattle.gd_certificate.specs.Exact.{Passes, Explains}
 use Rattle.gd_certificate.specs.declared.CertFault.{CertFault}

@@ -2,7 +2,7 @@
 use Rattle.std.proofs.Common.{◌≡◌, ℕ, ◌^◌, List, refl, sym, ap, ◌∙◌, subst, arith, Bool, true}
 use Rattle.std.specs.Prelude.{ℤ, pos, ◌+ℤ◌}
 use Rattle.std.proofs.lemmas.Int.{ints}
-use Rattle.gd_rules.specs.Scale.{Scale, IsLawful, IsBounded}
+use Rattle.gd_scale.specs.Scale.{Scale, IsLawful, IsBounded}
 use Rattle.gd_rules.specs.Question.{Element, Question, element, line}
 use Rattle.gd_rules.specs.Question.Element.{Segment, Receipt, Delivery, Pool}
 use Rattle.gd_rules.specs.Priced.{price, crossed}

@@ -3,7 +3,7 @@ use Rattle.std.specs.Prelude.{ℕ, List, map}
 use Rattle.gd_rules.specs.Schedule.{IsAllowed}
 use Rattle.gd_rules.specs.Tariff.{IsPricedByTariff}
 use Rattle.gd_rules.specs.Limits.{classes}
-use Rattle.gd_question.specs.Posed.{Posed}
+use Rattle.gd_question.specs.Posing.{Posed}
 use Rattle.gd_cost.specs.Parts.{class_words}
 use Rattle.gd_cost.specs.declared.lex.Lex.{Lex}
 use Rattle.gd_cost.specs.declared.pair.Pair.{Pair}

@@ -2,7 +2,7 @@
 use Rattle.std.specs.Prelude.{◌≡◌, Bool, false, List, length, ◌++◌, replicate}
 use Rattle.gd_rules.specs.Cut.{Side, IsCut}
 use Rattle.gd_system.specs.Pipeline.{Pipeline}
-use Rattle.gd_question.specs.Posed.{Posed}
+use Rattle.gd_question.specs.Posing.{Posed}
 use Rattle.gd_certificate.specs.declared.cut.CutFault.{CutFault}
 use Rattle.gd_certificate.specs.declared.cut.CutFault.TheVariants.{Shape, NotCut}
 

@@ -1,6 +1,6 @@
 -- What an exact check of a certificate answers.
 use Rattle.std.specs.Prelude.{◌≡◌, ◌≢◌, ℕ, ℤ, pos, ◌+◌, ◌<◌, Bool, List, length, ◌⊎◌, IsTrue}
-use Rattle.gd_rules.specs.Scale.{Scale, AtMost}
+use Rattle.gd_scale.specs.Scale.{Scale, AtMost}
 use Rattle.gd_rules.specs.Question.{Question, element, line}
 use Rattle.gd_rules.specs.Schedule.{IsAllowed, load, quantity}
 use Rattle.gd_rules.specs.Priced.{IsPriced, Clears, price, margin}

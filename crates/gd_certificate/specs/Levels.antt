@@ -1,11 +1,11 @@
 -- Levels of all places, which rise along each segment by its price.
 use Rattle.std.specs.Prelude.{◌≡◌, ℕ, ◌+◌, ◌<◌, ◌^◌, ℤ, pos, Bool, List, length, get_or, IsTrue}
-use Rattle.gd_rules.specs.Scale.{Scale}
+use Rattle.gd_scale.specs.Scale.{Scale}
 use Rattle.gd_rules.specs.Question.{Element}
 use Rattle.gd_rules.specs.Priced.{price}
 use Rattle.gd_rules.specs.Limits.{most_price_word}
 use Rattle.gd_tree.specs.Levels.{AreLevels}
-use Rattle.gd_question.specs.Posed.{Posed}
+use Rattle.gd_question.specs.Posing.{Posed}
 
 abbrev pub level : {V : Type 0} → Scale V → List V → ℕ → V
 level s levels place = get_or levels place s.none

@@ -1,6 +1,6 @@
 -- What a line pays at its origin, and when a price is right, as the code counts.
 use Rattle.std.specs.Prelude.{◌≡◌, ℕ, ℤ, pos, Option, Some, None}
-use Rattle.gd_rules.specs.Scale.{Scale, IsAbove}
+use Rattle.gd_scale.specs.Scale.{Scale, IsAbove}
 use Rattle.gd_rules.specs.Question.{Element}
 use Rattle.gd_rules.specs.Question.Element.{Segment, Receipt, Delivery, Pool}
 

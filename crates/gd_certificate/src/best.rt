@@ -1,11 +1,12 @@
 //! The check of a certificate.
 
 ghost use Rattle.std.specs.Prelude.{◌≡◌, ℕ, pos, ◌<◌, length, map, get_or, IsTrue, OnOk, IfErr, List};
-ghost use Rattle.gd_rules.specs.Question.{element as asked_element};
+ghost use Rattle.gd_scale.specs.Scale.{AtMost};
+ghost use Rattle.gd_rules.specs.Question.{Question as Asked, element as asked_element};
 ghost use Rattle.gd_rules.specs.Schedule.{IsAllowed, HasBetterTotals};
 ghost use Rattle.gd_rules.specs.Spread.{IsBest};
 ghost use Rattle.gd_rules.specs.Limits.{most_price_word};
-ghost use Rattle.gd_rules.specs.Priced.{price, Clears};
+ghost use Rattle.gd_rules.specs.Priced.{price, worth, Clears, IsPriced};
 ghost use Rattle.gd_rules.specs.Tariff.{IsPricedByTariff, IsPricedByClasses};
 ghost use Rattle.gd_cost.specs.Parts.{words_of, class_words};
 ghost use Rattle.gd_schedule.specs.First.{FoundFirst};
@@ -134,7 +135,7 @@ fn check_by<C: ByClass>(
 
 /// Checks that prices by the tariff in force show a schedule best.
 ///
-/// It passes exactly where the schedule is allowed and the prices are right; then no allowed schedule is better, in class totals or in the spread. Else it says what is first wrong. Want of memory is told last.
+/// It passes exactly where the schedule is allowed and the prices are right; then no allowed schedule is better, in class totals or in the spread. Else it says what is first wrong, or that memory was wanting before that was found.
 pub fn check(
     alloc: Global,
     question: &Question,
@@ -157,7 +158,7 @@ pub fn check(
 
 /// Checks that prices by classes alone show that no allowed schedule has better class totals. The spread has no part in it.
 ///
-/// It passes exactly where the schedule is allowed and the prices are right, else says what is first wrong. Want of memory is told last.
+/// It passes exactly where the schedule is allowed and the prices are right, else says what is first wrong, or that memory was wanting before that was found.
 pub fn check_classes(
     alloc: Global,
     question: &Question,
@@ -178,3 +179,13 @@ pub fn check_classes(
 {
     check_by(alloc, question, schedule, prices)
 }
+
+/// Whatever lawful cost it is: prices at which an allowed schedule clears show that no allowed schedule is worth more by it.
+pub fn prices_show_worth<C: ByClass>()
+    ensures { (q : Asked) (schedule other : List ℕ) (prices : List C.Meaning)
+        → IsAllowed q schedule
+        → IsPriced C.scale (λ class tenth. C.meaning (C.at class tenth)) q schedule prices
+        → IsAllowed q other
+        → AtMost C.scale (worth C.scale (λ class tenth. C.meaning (C.at class tenth)) q other)
+        (worth C.scale (λ class tenth. C.meaning (C.at class tenth)) q schedule) }
+{}

@@ -90,11 +90,21 @@ impl Checked {
     {
         self.known();
         let question = self.question().try_clone(alloc)?;
-        let schedule = self.schedule().try_clone(alloc)?;
-        let prices = self.prices().try_clone(alloc)?;
+        let Ok(schedule) = self.schedule().try_clone(alloc) else {
+            drop(question);
+            return Err(AllocError);
+        };
+        let Ok(prices) = self.prices().try_clone(alloc) else {
+            drop(question);
+            drop(schedule);
+            return Err(AllocError);
+        };
         match keep(alloc, question, schedule, prices) {
             Ok(checked) => Ok(checked),
-            Err(_) => Err(AllocError),
+            Err(parts) => {
+                drop(parts);
+                Err(AllocError)
+            }
         }
     }
 }

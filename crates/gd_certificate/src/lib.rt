@@ -14,7 +14,7 @@ mod loads;
 mod margin;
 mod par;
 
-pub use best::{check, check_classes};
+pub use best::{check, check_classes, prices_show_worth};
 pub use checked::{Checked, check_par};
 pub use cut::{Cut, CutFault, check_cut};
 use gd_cost::{Cost, Tariff};

@@ -1,7 +1,7 @@
 //! What lines pay, and what is left of a dekatherm's worth.
 
 ghost use Rattle.std.specs.Prelude.{◌≡◌, ◌↔◌, pos, ◌<◌, ◌≤◌, ◌+◌, ◌^◌, length, map, IsTrue};
-ghost use Rattle.gd_rules.specs.Scale.{AtMost};
+ghost use Rattle.gd_scale.specs.Scale.{AtMost};
 ghost use Rattle.gd_rules.specs.Question.{line as asked_line, element as asked_element};
 ghost use Rattle.gd_rules.specs.Tree.{CanSend, place_of};
 ghost use Rattle.gd_rules.specs.Limits.{most_price_word};

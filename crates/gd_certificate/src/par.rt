@@ -139,7 +139,7 @@ fn first_overfilled<C: ByClass + Sync>(
     )
 }
 
-/// Passes exactly where the schedule is allowed and the prices clear it by this cost, else says what is first wrong. Loads and margins are checked by several threads.
+/// Passes exactly where the schedule is allowed and the prices clear it by this cost, else says what is first wrong. Prices and margins are checked by several threads, loads by one.
 pub fn check_together<C: ByClass + Sync>(
     rt: &(impl Threads + Sync),
     alloc: Global,

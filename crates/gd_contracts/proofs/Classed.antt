@@ -9,7 +9,7 @@ use Rattle.gd_system.specs.Route.{ends_of, AreEnds}
 use Rattle.gd_system.specs.Known.{IsSystem}
 use Rattle.gd_system.specs.declared.part.Ends.{Ends}
 use Rattle.gd_system.specs.declared.RouteFault.{RouteFault}
-use Rattle.gd_system.proofs.Told.{has_route-elements, told_route}
+use Rattle.gd_system.proofs.NamedEnds.{has_route-elements, told_route}
 use Rattle.gd_contracts.specs.Held.{Held, contract_named}
 use Rattle.gd_contracts.specs.Known.{IsHeld}
 use Rattle.gd_contracts.specs.Classes.{route_between, firm_between, bought, class_between, class_under, class_told, IsClass, HasClass}

@@ -2,4 +2,4 @@ pub mod Graded
 pub mod InPath
 pub mod Named
 pub mod Classed
-mod Rows
+mod Examples

@@ -1,6 +1,6 @@
 -- What values of the three kinds are made of, and the lists of numbers that they mean.
 use Rattle.std.specs.Prelude.{ℕ, ℤ, pos, List, get_or}
-use Rattle.gd_rules.specs.Words.{first}
+use Rattle.gd_scale.specs.Words.{first}
 use Rattle.gd_cost.specs.declared.one.One.{One}
 use Rattle.gd_cost.specs.declared.lex.Lex.{Lex}
 use Rattle.gd_cost.specs.declared.pair.Pair.{Pair}

@@ -1,9 +1,9 @@
 //! Lists of numbers, of which the first that differs decides.
 
 ghost use Rattle.std.specs.Prelude.{◌≡◌, ℕ, ℤ, ◌<◌, slice_get};
-ghost use Rattle.gd_rules.specs.Words.{words, words_fit, words_size, words_rank};
-ghost use Rattle.gd_rules.proofs.Words.{words_lawful};
-ghost use Rattle.gd_rules.proofs.Bounds.{words_bounded, words_ranked};
+ghost use Rattle.gd_scale.specs.Words.{words, words_fit, words_size, words_rank};
+ghost use Rattle.gd_scale.proofs.Words.{words_lawful};
+ghost use Rattle.gd_scale.proofs.Bounds.{words_bounded, words_ranked};
 
 use crate::{Cost, word};
 use std::cmp::Ordering;

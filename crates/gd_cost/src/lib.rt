@@ -10,7 +10,7 @@ mod pair;
 mod word;
 
 ghost use Rattle.std.specs.Prelude.{◌≡◌, ℕ, ℤ, pos, ◌^◌, Bool, IsTrue};
-ghost use Rattle.gd_rules.specs.Scale.{Scale, IsLawful, IsBounded, IsRanked, multiple};
+ghost use Rattle.gd_scale.specs.Scale.{Scale, IsLawful, IsBounded, IsRanked, multiple};
 
 pub use by_class::{ByClass, Tariff};
 pub use lex::Lex;

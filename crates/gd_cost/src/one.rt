@@ -1,9 +1,9 @@
 //! A single number.
 
 ghost use Rattle.std.specs.Prelude.{◌≡◌, ℤ};
-ghost use Rattle.gd_rules.specs.Words.{whole, word_fits, word_size, word_rank};
-ghost use Rattle.gd_rules.proofs.Words.{whole_lawful};
-ghost use Rattle.gd_rules.proofs.Bounds.{whole_bounded, whole_ranked};
+ghost use Rattle.gd_scale.specs.Words.{whole, word_fits, word_size, word_rank};
+ghost use Rattle.gd_scale.proofs.Words.{whole_lawful};
+ghost use Rattle.gd_scale.proofs.Bounds.{whole_bounded, whole_ranked};
 
 use crate::{Cost, word};
 use std::cmp::Ordering;

@@ -1,9 +1,9 @@
 //! Pairs of values, of which the first decides before the second.
 
 ghost use Rattle.std.specs.Prelude.{◌≡◌};
-ghost use Rattle.gd_rules.specs.Words.{both, both_fit, both_size, both_rank};
-ghost use Rattle.gd_rules.proofs.Words.{both_lawful};
-ghost use Rattle.gd_rules.proofs.Bounds.{both_bounded, both_ranked};
+ghost use Rattle.gd_scale.specs.Words.{both, both_fit, both_size, both_rank};
+ghost use Rattle.gd_scale.proofs.Words.{both_lawful};
+ghost use Rattle.gd_scale.proofs.Bounds.{both_bounded, both_ranked};
 
 use crate::Cost;
 use std::cmp::Ordering;

@@ -1,7 +1,7 @@
 //! Exact arithmetic on one whole number.
 
 ghost use Rattle.std.specs.Prelude.{◌≡◌, ℤ, pos, ◌^◌, ◌+ℤ◌, ◌-ℤ◌, ◌*ℤ◌, IsTrue};
-ghost use Rattle.gd_rules.specs.Words.{word_fits};
+ghost use Rattle.gd_scale.specs.Words.{word_fits};
 
 pub fn plus(a: i128, b: i128) -> i128
     requires left { IsTrue (word_fits (pos (2 ^ 100)) a) }

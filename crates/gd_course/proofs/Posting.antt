@@ -1,5 +1,5 @@
 -- What is known of the board after a call that publishes nothing.
-use Rattle.std.proofs.Common.{◌≡◌, ℕ, ◌++◌, ◌∷◌, [], refl, Result, Ok, Err, Option, sym, subst}
+use Rattle.std.proofs.Common.{ℕ, refl, Result, Ok, Err, Option, sym, subst}
 use Rattle.std.specs.Prelude.{IfOk, OnOk, List}
 use Rattle.gd_board.specs.Known.{Knowledge}
 use Rattle.gd_board.specs.declared.posting.Posting.{Posting}
@@ -8,15 +8,15 @@ use Rattle.gd_machine.specs.declared.event.Event.TheVariants as event
 use Rattle.gd_machine.specs.declared.reply.Reply.{Reply as BookReply}
 use Rattle.gd_machine.specs.declared.refusal.Refusal.{Refusal}
 use Rattle.gd_machine.specs.Day.{Day}
-use Rattle.gd_machine.specs.History.{History, cycle_of}
+use Rattle.gd_machine.specs.History.{History}
 use Rattle.gd_machine.specs.Machine.{Step}
-use Rattle.gd_book.specs.Posted.{AllPosted, Posts}
+use Rattle.gd_book.specs.Postings.{AllPosted, Posts}
 use Rattle.gd_book.proofs.Posting.{all_more, same_stays}
 use Rattle.gd_replies.specs.declared.call.Call.{Call}
 use Rattle.gd_replies.specs.declared.reply.Reply.{Reply}
 use Rattle.gd_text_part.specs.declared.row.Row.{Row}
 use Rattle.gd_course.specs.Course.{Declares}
-use Rattle.gd_course.specs.Told.{Steps}
+use Rattle.gd_course.specs.CallRows.{Steps}
 
 -- a step by an event of which nothing need be known
 step : (day : Day) (h after : History) (e : Event) (known : Knowledge) (r : Result BookReply Refusal) → ((o : Option Posting) → Posts day h o e) → Step day h e r after → AllPosted day h known → AllPosted day after known

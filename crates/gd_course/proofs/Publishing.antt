@@ -1,8 +1,8 @@
 -- What becomes of a schedule with its prices.
-use Rattle.std.proofs.Common.{◌≡◌, ◌⊎◌, inl, inr, ℕ, true, List, [], ◌∷◌, map, Result, Ok, Err, IfOk, refl, sym, subst}
+use Rattle.std.proofs.Common.{◌≡◌, inl, inr, ℕ, true, List, [], ◌∷◌, map, Result, Ok, Err, IfOk, refl, sym, subst}
 use Rattle.std.specs.Result.{IsOk}
 use Rattle.gd_cost.specs.Parts.{class_words}
-use Rattle.gd_question.specs.Posed.{Posed}
+use Rattle.gd_question.specs.Posing.{Posed}
 use Rattle.gd_certificate.specs.Checked.{Certificate, IsRight}
 use Rattle.gd_certificate.specs.InForce.{ExplainsTariff}
 use Rattle.gd_certificate.specs.declared.CertFault.{CertFault}
@@ -13,13 +13,13 @@ use Rattle.gd_machine.specs.declared.reply.Reply.{Reply as BookReply}
 use Rattle.gd_machine.specs.declared.refusal.Refusal.{Refusal}
 use Rattle.gd_machine.specs.Day.{Day}
 use Rattle.gd_machine.specs.History.{History, is_frozen}
-use Rattle.gd_machine.specs.Asked.{question}
+use Rattle.gd_machine.specs.Asking.{question}
 use Rattle.gd_machine.specs.Machine.{Step}
 use Rattle.gd_replies.specs.Days.{TellsUncertified}
 use Rattle.gd_replies.specs.declared.call.Call.{Call}
 use Rattle.gd_replies.specs.declared.call.Call.TheVariants as call
 use Rattle.gd_replies.specs.declared.reply.Reply.{Reply}
-use Rattle.gd_course.specs.Told.{Steps, IsTold, answer_rows}
+use Rattle.gd_course.specs.CallRows.{Steps, IsTold, answer_rows}
 use Rattle.gd_course.specs.Course.{Tariffs, certificate_of, PublishesFrozen, Settles}
 
 -- what is told of one certificate is told of an equal one

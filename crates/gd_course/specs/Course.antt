@@ -1,6 +1,5 @@
 -- What a row of a day's text does to its book, and what is told of it.
 use Rattle.std.specs.Prelude.{◌≡◌, ◌≢◌, ◌⊎◌, ℕ, ◌-◌, true, false, List, [], ◌∷◌, ◌++◌, map, take, Ok}
-use Rattle.gd_rules.specs.Schedule.{IsAllowed}
 use Rattle.gd_cost.specs.Parts.{class_words}
 use Rattle.gd_cost.specs.declared.lex.Lex.{Lex}
 use Rattle.gd_cost.specs.declared.pair.Pair.{Pair}
@@ -9,14 +8,12 @@ use Rattle.gd_certificate.specs.Checked.{Certificate, IsRight}
 use Rattle.gd_certificate.specs.Cutting.{Members, IsShaped, Cuts}
 use Rattle.gd_certificate.specs.InForce.{ExplainsTariff}
 use Rattle.gd_certificate.specs.declared.CertFault.{CertFault}
-use Rattle.gd_machine.specs.declared.event.Event.{Event}
 use Rattle.gd_machine.specs.declared.event.Event.TheVariants as event
 use Rattle.gd_machine.specs.declared.refusal.Refusal.TheVariants as refusal
 use Rattle.gd_machine.specs.Day.{Day}
 use Rattle.gd_machine.specs.History.{History, is_frozen, round_of}
-use Rattle.gd_machine.specs.Asked.{question}
+use Rattle.gd_machine.specs.Asking.{question}
 use Rattle.gd_replies.specs.Days.{TellsUncertified}
-use Rattle.gd_replies.specs.declared.call.Call.{Call}
 use Rattle.gd_replies.specs.declared.call.Call.TheVariants as call
 use Rattle.gd_replies.specs.declared.reply.Reply.{Reply}
 use Rattle.gd_replies.specs.declared.reply.Reply.TheVariants as reply
@@ -27,8 +24,8 @@ use Rattle.gd_text.specs.Members.{members_of}
 use Rattle.gd_text.specs.Prices.{Table, ArePrices, prices_of}
 use Rattle.gd_text.specs.Values.{quantities_of}
 use Rattle.gd_day.specs.Calls.{Call as DayCall}
-use Rattle.gd_day.specs.Named.{element_named}
-use Rattle.gd_course.specs.Told.{Steps, Stays}
+use Rattle.gd_day.specs.ElementNames.{element_named}
+use Rattle.gd_course.specs.CallRows.{Steps, Stays}
 
 abbrev pub Tariffs : Type 0
 Tariffs = List (Pair (Lex 8) (Lex 8))

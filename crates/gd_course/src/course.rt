@@ -3,7 +3,7 @@
 ghost use Rattle.std.specs.Prelude.{◌≡◌, [], ◌∷◌, length as len_of, OnOk, OnErr};
 ghost use Rattle.gd_day.specs.Calls.{calls_of};
 ghost use Rattle.gd_day.specs.Groups.{AllPass};
-ghost use Rattle.gd_book.specs.Posted.{AllPosted};
+ghost use Rattle.gd_book.specs.Postings.{AllPosted};
 ghost use Rattle.gd_course.specs.Course as spec;
 
 use crate::event::make_call;

@@ -2,11 +2,11 @@
 
 ghost use Rattle.std.specs.Prelude.{◌≡◌, ◌-◌, IfOk, OnOk};
 ghost use Rattle.gd_day.specs.Groups.{Passes};
-ghost use Rattle.gd_day.specs.Named as named;
+ghost use Rattle.gd_day.specs.ElementNames as named;
 ghost use Rattle.gd_machine.specs.declared.event.Event.TheVariants as event;
-ghost use Rattle.gd_book.specs.Posted.{AllPosted};
+ghost use Rattle.gd_book.specs.Postings.{AllPosted};
 ghost use Rattle.gd_course.specs.Course as spec;
-ghost use Rattle.gd_course.specs.Told.{Steps};
+ghost use Rattle.gd_course.specs.CallRows.{Steps};
 
 use crate::rows::{one_row, tell};
 use crate::settle::{Offer, declare_as, publish_frozen, settle};

@@ -5,7 +5,7 @@ ghost use Rattle.gd_machine.specs.History.{History};
 ghost use Rattle.gd_machine.specs.Machine.{Step, IsAccepted};
 ghost use Rattle.gd_machine.specs.declared.event.Event.{Event as AnEvent};
 ghost use Rattle.gd_machine.specs.declared.reply.Reply.{Reply as ABookReply};
-ghost use Rattle.gd_course.specs.Told as spec;
+ghost use Rattle.gd_course.specs.CallRows as spec;
 
 use gd_book::{Book, Event, Refusal, Reply as BookReply};
 use gd_replies::{Call, Reply, declared_replies, frozen_replies, published_replies, refused_reply};

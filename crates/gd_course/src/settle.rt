@@ -5,11 +5,11 @@ ghost use Rattle.gd_rules.specs.Schedule.{IsAllowed};
 ghost use Rattle.gd_rules.specs.Tariff.{IsPricedByTariff};
 ghost use Rattle.gd_cost.specs.Parts.{class_words};
 ghost use Rattle.gd_machine.specs.History.{is_frozen};
-ghost use Rattle.gd_machine.specs.Asked.{question as question_of};
+ghost use Rattle.gd_machine.specs.Asking.{question as question_of};
 ghost use Rattle.gd_machine.specs.declared.event.Event.TheVariants as event;
-ghost use Rattle.gd_book.specs.Posted.{AllPosted};
+ghost use Rattle.gd_book.specs.Postings.{AllPosted};
 ghost use Rattle.gd_course.specs.Course as spec;
-ghost use Rattle.gd_course.specs.Told.{Steps};
+ghost use Rattle.gd_course.specs.CallRows.{Steps};
 
 use crate::rows::{one_row, tell};
 use gd_board::{Board, BoardNote};
@@ -62,7 +62,13 @@ pub(crate) fn publish_frozen(
     ensures posted { OnOk result (AllPosted book.old.day book.old.history note.old
         → AllPosted book.old.day book.new.history note.new) }
 {
-    let question = frozen_copy(alloc, book)?;
+    let question = match frozen_copy(alloc, book) {
+        Ok(question) => question,
+        Err(fault) => {
+            drop(offer);
+            return Err(fault);
+        }
+    };
     let Offer {
         moment,
         schedule,
@@ -74,10 +80,11 @@ pub(crate) fn publish_frozen(
             tell(alloc, book, Call::Publish, answer)
         }
         Err((fault, question, schedule, prices)) => {
-            one_row(
-                alloc,
-                uncertified_reply(&question, &schedule, &prices, fault)?,
-            )
+            let told = uncertified_reply(&question, &schedule, &prices, fault);
+            drop(question);
+            drop(schedule);
+            drop(prices);
+            one_row(alloc, told?)
         }
     }
 }
@@ -104,7 +111,13 @@ fn publish_found(
     ensures posted { OnOk result (AllPosted book.old.day book.old.history note.old
         → AllPosted book.old.day book.new.history note.new) }
 {
-    let question = frozen_copy(alloc, book)?;
+    let question = match frozen_copy(alloc, book) {
+        Ok(question) => question,
+        Err(fault) => {
+            drop(offer);
+            return Err(fault);
+        }
+    };
     let Offer {
         moment,
         schedule,
@@ -116,7 +129,10 @@ fn publish_found(
             tell(alloc, book, Call::Settle, answer)
         }
         // What was found is right, so that nothing but memory can fail.
-        Err(_) => Err(AllocError),
+        Err(refused) => {
+            drop(refused);
+            Err(AllocError)
+        }
     }
 }
 

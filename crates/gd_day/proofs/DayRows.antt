@@ -18,7 +18,7 @@ use Rattle.gd_text_part.specs.declared.row.Row.{Row}
 use Rattle.gd_text_part.specs.declared.row.Row.TheVariants as row
 use Rattle.gd_text.specs.Building.{built_from}
 use Rattle.gd_day.specs.Calls.{calls_of}
-use Rattle.gd_day.specs.Opened.{opened_of}
+use Rattle.gd_day.specs.Opening.{opened_of}
 
 abbrev r1 : List ℕ
 r1 = codes "R1"

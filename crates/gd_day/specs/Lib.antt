@@ -1,8 +1,8 @@
 pub mod Calls
-pub mod Carried
-pub mod Contracted
+pub mod Carrying
+pub mod ContractRows
 pub mod Groups
 pub mod Heads
 pub mod Marks
-pub mod Named
-pub mod Opened
+pub mod ElementNames
+pub mod Opening

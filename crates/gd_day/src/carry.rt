@@ -4,7 +4,7 @@ ghost use Rattle.std.specs.Prelude.{◌≡◌, IfOk, OnOk};
 ghost use Rattle.std.specs.List.{IsDistinct};
 ghost use Rattle.gd_rules.specs.Lines.{same_key};
 ghost use Rattle.gd_text.specs.Building.{Builds, MayBecome};
-ghost use Rattle.gd_day.specs.Carried as spec;
+ghost use Rattle.gd_day.specs.Carrying as spec;
 
 use gd_lines::LineKey;
 use gd_text_part::{Cause, Row, TextFault};

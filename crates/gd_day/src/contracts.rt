@@ -2,7 +2,7 @@
 
 ghost use Rattle.std.specs.Prelude.{◌≡◌};
 ghost use Rattle.gd_text.specs.Building.{Builds, MayBecome};
-ghost use Rattle.gd_day.specs.Contracted as spec;
+ghost use Rattle.gd_day.specs.ContractRows as spec;
 
 use gd_contracts::{ContractFault, Contracts};
 use gd_system::System;

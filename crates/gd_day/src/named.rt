@@ -1,7 +1,7 @@
 //! The elements that rows name.
 
 ghost use Rattle.std.specs.Prelude.{◌≡◌};
-ghost use Rattle.gd_day.specs.Named as spec;
+ghost use Rattle.gd_day.specs.ElementNames as spec;
 
 use gd_system::{Element, System};
 use gd_units::Name;

@@ -5,9 +5,9 @@ ghost use Rattle.std.specs.List.{IsDistinct};
 ghost use Rattle.gd_rules.specs.Lines.{same_key};
 ghost use Rattle.gd_text.specs.Building.{Builds};
 ghost use Rattle.gd_day.specs.Calls.{calls_of};
-ghost use Rattle.gd_day.specs.Carried.{keys};
+ghost use Rattle.gd_day.specs.Carrying.{keys};
 ghost use Rattle.gd_day.specs.Groups.{AllPass};
-ghost use Rattle.gd_day.specs.Opened as spec;
+ghost use Rattle.gd_day.specs.Opening as spec;
 
 use crate::carry::carry_of;
 use crate::contracts::contracts_on;
@@ -58,14 +58,34 @@ pub fn day_text_of(alloc: Global, rows: &[Row]) -> Result<DayText, TextFault>
 {
     let system = system_of(alloc, rows)?;
     let contracts = contracts_on(alloc, rows, system)?;
-    let head = head_of(alloc, rows)?;
-    let carry = carry_of(alloc, rows)?;
-    check_calls(alloc, rows, contracts.system())?;
-    Ok(DayText {
-        date: head.date,
-        zone: head.zone,
-        book: head.book,
-        contracts,
-        carry,
-    })
+    let head = match head_of(alloc, rows) {
+        Ok(head) => head,
+        Err(fault) => {
+            drop(contracts);
+            return Err(fault);
+        }
+    };
+    let carry = match carry_of(alloc, rows) {
+        Ok(carry) => carry,
+        Err(fault) => {
+            drop(contracts);
+            drop(head);
+            return Err(fault);
+        }
+    };
+    match check_calls(alloc, rows, contracts.system()) {
+        Ok(()) => Ok(DayText {
+            date: head.date,
+            zone: head.zone,
+            book: head.book,
+            contracts,
+            carry,
+        }),
+        Err(fault) => {
+            drop(contracts);
+            drop(head);
+            drop(carry);
+            Err(fault)
+        }
+    }
 }

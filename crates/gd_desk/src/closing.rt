@@ -60,7 +60,10 @@ fn checked(
 {
     match check_par(rt, alloc, question, schedule, prices) {
         Ok(found) => Ok(found),
-        Err(_) => Err(AllocError),
+        Err(refused) => {
+            drop(refused);
+            Err(AllocError)
+        }
     }
 }
 

@@ -4,25 +4,27 @@ ghost use Rattle.std.specs.Prelude.{◌≡◌, true, false, IfOk};
 ghost use Rattle.std.specs.Option.{MatchOption};
 ghost use Rattle.gd_machine.specs.declared.event.Event.TheVariants as event;
 ghost use Rattle.gd_machine.specs.Machine.{IsLegal};
-ghost use Rattle.gd_office_part.specs.Told.{Tells};
+ghost use Rattle.gd_office_part.specs.Days.{IsDayOf};
+ghost use Rattle.gd_office_part.specs.StepResults.{Tells};
 ghost use Rattle.gd_desk.specs.Desks as spec;
 
 use gd_board::{Board, BoardNote};
 use gd_book::Event;
-use gd_office_part::{Kept, Receipt, Slot};
+use gd_office_part::{Days, Kept, Receipt, Slot};
 use gd_question::Question;
 use gd_units::Moment;
 use std::alloc::AllocError;
 use std::sync::Wait;
 
 /// Freezes a book at a moment, of whose history it is known that it is legal.
-fn freeze_in(
-    kept: &mut Kept,
+fn freeze_in<J: Days>(
+    kept: &mut Kept<J>,
     moment: Moment,
     board: &Board,
     note: &mut BoardNote,
 ) -> Result<(Receipt, Option<Question>), AllocError>
     requires { note.old.cells ≡ board.now }
+    ensures day { IsDayOf J.days kept.old.slot kept.old.book.day }
     ensures legal { IsLegal kept.old.book.day kept.old.book.history }
     ensures event { IfOk result (λ both. both.0.event ≡ event.Freeze moment) }
     ensures told { IfOk result (λ both. Tells kept.old.book.day kept.old.book.history
@@ -37,27 +39,28 @@ fn freeze_in(
 
 /// Freezes the book of a slot at a moment, and hands out the question that is frozen then, if there is one. It waits for the
 /// lock. The only error is want of memory, after which the freeze may stand.
-pub(crate) fn freeze<R: Wait>(
+pub(crate) fn freeze<R: Wait, J: Days>(
     rt: &R,
-    slot: &Slot,
+    slot: &Slot<J>,
     moment: Moment,
     note: &mut BoardNote,
 ) -> Result<(Receipt, Option<Question>), AllocError>
     requires { note.old.cells ≡ slot.now.board }
-    ensures froze { IfOk result (λ both. spec.Froze moment both.0 both.1) }
+    ensures froze { IfOk result (λ both. spec.Froze J.days slot.now.number moment both.0 both.1) }
     ensures board { note.new.cells ≡ note.old.cells }
 {
-    freeze_in(&mut slot.kept().lock(rt), moment, slot.board(), note)
+    freeze_in(&mut slot.lock(rt), moment, slot.board(), note)
 }
 
 /// Makes one step of a book, of whose history it is known that it is legal.
-fn step_in(
-    kept: &mut Kept,
+fn step_in<J: Days>(
+    kept: &mut Kept<J>,
     event: Event,
     board: &Board,
     note: &mut BoardNote,
 ) -> Result<Receipt, AllocError>
     requires { note.old.cells ≡ board.now }
+    ensures day { IsDayOf J.days kept.old.slot kept.old.book.day }
     ensures legal { IsLegal kept.old.book.day kept.old.book.history }
     ensures event { IfOk result (λ receipt. receipt.event ≡ event) }
     ensures told { IfOk result (λ receipt. Tells kept.old.book.day kept.old.book.history
@@ -69,15 +72,15 @@ fn step_in(
 
 /// Makes one step of the book of a slot. It waits for the lock. The only error is want of memory, after which the book is as
 /// before.
-pub(crate) fn step<R: Wait>(
+pub(crate) fn step<R: Wait, J: Days>(
     rt: &R,
-    slot: &Slot,
+    slot: &Slot<J>,
     event: Event,
     note: &mut BoardNote,
 ) -> Result<Receipt, AllocError>
     requires { note.old.cells ≡ slot.now.board }
     ensures event { IfOk result (λ receipt. receipt.event ≡ event) }
-    ensures stepped { IfOk result spec.Stepped }
+    ensures stepped { IfOk result (spec.Stepped J.days slot.now.number) }
 {
-    step_in(&mut slot.kept().lock(rt), event, slot.board(), note)
+    step_in(&mut slot.lock(rt), event, slot.board(), note)
 }

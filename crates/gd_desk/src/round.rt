@@ -1,7 +1,7 @@
 //! The round of the desks, each in a thread of its own.
 
-ghost use Rattle.std.specs.Prelude.{◌≡◌, IfOk, IfSome, length as len_of, vec_len};
-ghost use Rattle.std.specs.List.{All};
+ghost use Rattle.std.specs.Prelude.{◌≡◌, ℕ, IfOk, IfSome, length as len_of, vec_len};
+ghost use Rattle.gd_office.specs.Slots.{AreNumbered};
 ghost use Rattle.gd_desk.specs.Desks as spec;
 
 use crate::closing::{answer_from, closing};
@@ -10,27 +10,28 @@ use crate::freezing::{freeze, step};
 use crate::gate::Gate;
 use gd_board::BoardNote;
 use gd_office::Office;
-use gd_office_part::{Receipt, Slot};
+use gd_office_part::{Days, Receipt, Slot};
 use gd_question::Question;
 use gd_units::Moment;
 use std::alloc::{AllocError, Global};
+use std::marker::PhantomData;
 use std::sync::Wait;
 use std::thread;
 use std::thread::{Promise, PromisedHandle, Threads};
 use std::time::Clock;
 
 /// Solves the question that was found frozen, passes the gate, and publishes or declares it.
-fn settle<R: Threads + Wait + Clock + Sync, G: Gate>(
+fn settle<R: Threads + Wait + Clock + Sync, G: Gate, J: Days>(
     rt: &R,
     alloc: Global,
-    slot: &Slot,
+    slot: &Slot<J>,
     moment: Moment,
     note: &mut BoardNote,
     question: &Question,
     gate: &G,
 ) -> Result<Receipt, AllocError>
     requires { note.old.cells ≡ slot.now.board }
-    ensures { IfOk result (spec.Closes moment question.now) }
+    ensures { IfOk result (spec.Closes J.days slot.now.number moment question.now) }
 {
     let answer = answer_from(alloc, slot.board(), note, question)?;
     gate.pass(rt, slot.number());
@@ -39,14 +40,14 @@ fn settle<R: Threads + Wait + Clock + Sync, G: Gate>(
 }
 
 /// Freezes the book of a slot, and closes the question that is frozen then.
-fn work<R: Threads + Wait + Clock + Sync, G: Gate>(
+fn work<R: Threads + Wait + Clock + Sync, G: Gate, J: Days>(
     rt: &R,
     alloc: Global,
-    slot: &Slot,
+    slot: &Slot<J>,
     moment: Moment,
     gate: &G,
 ) -> Result<Desk, DeskFault>
-    ensures { IfOk result (spec.IsDesk moment) }
+    ensures { IfOk result (spec.IsDesk J.days slot.now.number moment) }
 {
     let mut note = slot.board().note();
     let (froze, asked) = freeze(rt, slot, moment, &mut note)?;
@@ -57,45 +58,53 @@ fn work<R: Threads + Wait + Clock + Sync, G: Gate>(
             closed: None,
         });
     };
-    let closed = settle(rt, alloc, slot, moment, &mut note, &question, gate)?;
-    Ok(Desk {
-        froze,
-        question: Some(question),
-        closed: Some(closed),
-    })
+    match settle(rt, alloc, slot, moment, &mut note, &question, gate) {
+        Ok(closed) => Ok(Desk {
+            froze,
+            question: Some(question),
+            closed: Some(closed),
+        }),
+        Err(fault) => {
+            drop(froze);
+            drop(question);
+            Err(fault.into())
+        }
+    }
 }
 
 /// The same at a moment that another thread holds.
-fn work_at<R: Threads + Wait + Clock + Sync, G: Gate>(
+fn work_at<R: Threads + Wait + Clock + Sync, G: Gate, J: Days>(
     rt: &R,
     alloc: Global,
-    slot: &Slot,
+    slot: &Slot<J>,
     moment: &Moment,
     gate: &G,
 ) -> Result<Desk, DeskFault>
-    ensures { IfOk result (spec.IsDesk moment.now) }
+    ensures { IfOk result (spec.IsDesk J.days slot.now.number moment.now) }
 {
     work(rt, alloc, slot, *moment, gate)
 }
 
-/// What a thread promises: the desk of this moment.
+/// What a thread promises: the desk of this slot and moment.
 #[derive(Drop)]
-struct DeskAt {
+struct DeskAt<J: Days> {
+    slot: u32,
     moment: Moment,
+    of: PhantomData<J>,
 }
 
-impl Promise<Result<Desk, DeskFault>> for DeskAt {
-    ghost kept_by = { λ p r. IfOk r (spec.IsDesk p.moment) };
+impl<J: Days> Promise<Result<Desk, DeskFault>> for DeskAt<J> {
+    ghost kept_by = { λ p r. IfOk r (spec.IsDesk J.days p.slot p.moment) };
 }
 
 /// What one thread hands back, if it could be started.
-fn joined<R: Threads>(
+fn joined<R: Threads, J: Days>(
     rt: &R,
     moment: &Moment,
-    child: Option<PromisedHandle<Result<Desk, DeskFault>, DeskAt>>,
+    child: Option<PromisedHandle<Result<Desk, DeskFault>, DeskAt<J>>>,
 ) -> Result<Desk, DeskFault>
-    requires { IfSome child (λ h. h.promise.moment ≡ moment.now) }
-    ensures { IfOk result (spec.IsDesk moment.now) }
+    ensures { (slot : ℕ) → IfSome child (λ h. (h.promise.slot ≡ slot) × (h.promise.moment ≡ moment.now))
+        → IfOk result (spec.IsDesk J.days slot moment.now) }
 {
     let _ = moment;
     match child {
@@ -105,15 +114,16 @@ fn joined<R: Threads>(
 }
 
 /// What all threads hand back, in the order of the slots.
-fn join_all<R: Threads>(
+fn join_all<R: Threads, J: Days>(
     rt: &R,
     alloc: Global,
     moment: &Moment,
-    children: Vec<Option<PromisedHandle<Result<Desk, DeskFault>, DeskAt>>>,
+    children: Vec<Option<PromisedHandle<Result<Desk, DeskFault>, DeskAt<J>>>>,
 ) -> Result<Vec<Result<Desk, DeskFault>>, AllocError>
-    requires { All (λ child. IfSome child (λ h. h.promise.moment ≡ moment.now)) children.items }
+    requires { spec.EachFrom (λ slot child. IfSome child (λ h. (h.promise.slot ≡ slot)
+        × (h.promise.moment ≡ moment.now))) 1 children.items }
     ensures len { IfOk result (λ desks. vec_len desks ≡ vec_len children) }
-    ensures each { IfOk result (λ desks. All (λ desk. IfOk desk (spec.IsDesk moment.now)) desks.items) }
+    ensures each { IfOk result (λ desks. spec.AreTried J.days moment.now desks.items) }
 {
     let mut desks = Vec::with_capacity(alloc, children.len())?;
     for child in children {
@@ -123,28 +133,35 @@ fn join_all<R: Threads>(
 }
 
 /// Starts a thread for each slot, and waits for all.
-fn round_of<R: Threads + Wait + Clock + Sync, G: Gate + Sync>(
+fn round_of<R: Threads + Wait + Clock + Sync, G: Gate + Sync, J: Days + Send + Sync>(
     rt: &R,
     alloc: Global,
     moment: &Moment,
-    slots: &[Slot],
+    slots: &[Slot<J>],
     gate: &G,
 ) -> Result<Vec<Result<Desk, DeskFault>>, AllocError>
+    requires { AreNumbered slots.now }
     ensures len { IfOk result (λ desks. vec_len desks ≡ len_of slots.now) }
-    ensures each { IfOk result (λ desks. All (λ desk. IfOk desk (spec.IsDesk moment.now)) desks.items) }
+    ensures each { IfOk result (λ desks. spec.AreTried J.days moment.now desks.items) }
 {
     thread::scope(
         thread::scope_env(),
         rt,
         |scope| -> Result<Vec<Result<Desk, DeskFault>>, AllocError>
+            requires { AreNumbered slots.now }
             ensures len { IfOk result (λ desks. vec_len desks ≡ len_of slots.entry.now) }
             ensures each { IfOk result
-                (λ desks. All (λ desk. IfOk desk (spec.IsDesk moment.entry.now)) desks.items) }
+                (λ desks. spec.AreTried J.days moment.entry.now desks.items) }
         {
             let mut children = Vec::with_capacity(alloc, slots.len())?;
             for slot in slots {
+                let promise: DeskAt<J> = DeskAt {
+                    slot: slot.number(),
+                    moment: *moment,
+                    of: PhantomData,
+                };
                 let child = scope.spawn_with(
-                    DeskAt { moment: *moment },
+                    promise,
                     move || work_at(rt, alloc, slot, moment, gate),
                 );
                 children.push(child.ok())?;
@@ -164,15 +181,15 @@ fn round_of<R: Threads + Wait + Clock + Sync, G: Gate + Sync>(
 ///
 /// Want of memory before any thread is waited for. A slot whose thread can't be started is `NoThread`, one whose desk wants
 /// memory `OutOfMemory`; a freeze that it accepted stands, and the next round takes its question.
-pub fn desk_round<R: Threads + Wait + Clock + Sync, G: Gate + Sync>(
+pub fn desk_round<R: Threads + Wait + Clock + Sync, G: Gate + Sync, J: Days + Send + Sync>(
     rt: &R,
     alloc: Global,
     moment: Moment,
-    office: &Office,
+    office: &Office<J>,
     gate: &G,
 ) -> Result<Vec<Result<Desk, DeskFault>>, AllocError>
     ensures len { IfOk result (λ desks. vec_len desks ≡ len_of office.now.slots.items) }
-    ensures each { IfOk result (λ desks. All (λ desk. IfOk desk (spec.IsDesk moment)) desks.items) }
+    ensures each { IfOk result (λ desks. spec.AreTried J.days moment desks.items) }
 {
     round_of(rt, alloc, &moment, office.slots(), gate)
 }

@@ -4,11 +4,11 @@ use Rattle.std.specs.Prelude.{ℤ, pos, negsuc, neg_ℤ, ◌-ℤ◌, ◌≤ℤ�
 use Rattle.std.specs.Int.{w64}
 use borrow.Author.Differences.{ints}
 use Rattle.gd_network.specs.Arcs.{Net, lower_at, upper_at}
-use Rattle.gd_network.specs.Begun.{AreSound, IsFirst}
+use Rattle.gd_network.specs.Beginning.{AreSound, IsFirst}
 use Rattle.gd_network.specs.Flow.{flow_at, IsCirculation, IsWithin}
-use Rattle.gd_walks.specs.declared.Step.{Step}
-use Rattle.gd_walks.specs.Steps.{above_none, amiss, amiss_at, room, IsNearer, Mends}
-use Rattle.gd_flow.specs.Kept.{IsKept, Holds}
+use Rattle.gd_network.specs.declared.walks.Step.{Step}
+use Rattle.gd_network.specs.Steps.{above_none, amiss, amiss_at, room, IsNearer, Mends}
+use Rattle.gd_flow.specs.Keeping.{IsKept, Holds}
 
 pub above_least : (z : ℤ) (m : ℕ) → above_none z ≤ m → z ≤ℤ pos m
 above_least (pos a) m h = omega (arith, ints)

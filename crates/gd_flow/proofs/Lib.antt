@@ -1,6 +1,6 @@
 pub mod Amiss
-pub mod Back
-pub mod Found
+pub mod WayBack
+pub mod Reach
 pub mod Linking
 pub mod Sides
-pub mod Stuck
+pub mod ReachedCut

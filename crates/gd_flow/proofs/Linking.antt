@@ -6,10 +6,10 @@ use Rattle.std.proofs.lemmas.Bool.{false≢true}
 use Rattle.std.proofs.lemmas.List.Elements.{All-filter}
 use Rattle.std.proofs.lemmas.List.FromFn.{get_or-range_with_len, length-range_with_len}
 use Rattle.gd_network.specs.Arcs.{Net, arc_at, from_at, to_at}
-use Rattle.gd_network.specs.Begun.{AreSound}
+use Rattle.gd_network.specs.Beginning.{AreSound}
 use Rattle.gd_network.specs.Links.{touches, links_of}
-use Rattle.gd_walks.specs.declared.Step.{Step}
-use Rattle.gd_walks.specs.Steps.{tail_of, head_of}
+use Rattle.gd_network.specs.declared.walks.Step.{Step}
+use Rattle.gd_network.specs.Steps.{tail_of, head_of}
 
 -- they are arcs of the network
 pub links_within : (n : Net) (node k : ℕ) → k < length (links_of n node) → get_or (links_of n node) k 0 < length n

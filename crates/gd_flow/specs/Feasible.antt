@@ -1,6 +1,6 @@
 -- A flow over a question's network.
 use Rattle.std.specs.Prelude.{◌≡◌, ℤ, List, length}
-use Rattle.gd_question.specs.Posed.{Posed}
+use Rattle.gd_question.specs.Posing.{Posed}
 use Rattle.gd_network.specs.Arcs.{Net}
 use Rattle.gd_network.specs.Flow.{IsCirculation, IsWithin}
 

@@ -1,6 +1,6 @@
 pub mod Feasible
 pub mod Inside
-pub mod Kept
-pub mod Repaired
+pub mod Keeping
+pub mod Repair
 pub mod Search
 pub mod Ways

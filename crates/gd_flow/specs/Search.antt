@@ -2,9 +2,9 @@
 use Rattle.std.specs.Prelude.{◌≡◌, ◌≢◌, ℕ, ◌+◌, ◌<◌, ◌≤◌, ℤ, pos, ◌<ℤ◌, Bool, true, false, not, List, length, get_or}
 use Rattle.std.specs.List.{count_by}
 use Rattle.gd_network.specs.Arcs.{Net}
-use Rattle.gd_network.specs.Begun.{Laid}
-use Rattle.gd_walks.specs.declared.Step.{Step}
-use Rattle.gd_walks.specs.Steps.{tail_of, head_of, room, Follows, AreSteps, HasRooms, Once}
+use Rattle.gd_network.specs.Beginning.{Laid}
+use Rattle.gd_network.specs.declared.walks.Step.{Step}
+use Rattle.gd_network.specs.Steps.{tail_of, head_of, room, Follows, AreSteps, HasRooms, Once}
 use Rattle.gd_flow.specs.declared.search.Find.{Find}
 use Rattle.gd_flow.specs.declared.search.Search.{Search}
 

@@ -1,8 +1,8 @@
 -- What closes a step that mends an arc.
 use Rattle.std.specs.Prelude.{ℤ, List}
 use Rattle.gd_certificate.specs.Cutting.{IsShaped, Cuts}
-use Rattle.gd_network.specs.Begun.{Laid}
-use Rattle.gd_walks.specs.declared.Step.{Step}
+use Rattle.gd_network.specs.Beginning.{Laid}
+use Rattle.gd_network.specs.declared.walks.Step.{Step}
 use Rattle.gd_flow.specs.Search.{Closes}
 use Rattle.gd_flow.specs.declared.mending.Way.{Way}
 use Rattle.gd_flow.specs.declared.mending.Way.TheVariants.{Walk, Cut}

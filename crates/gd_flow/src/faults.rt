@@ -1,11 +1,10 @@
 //! What is wrong with a flow.
 
 ghost use Rattle.std.specs.Prelude.{◌≡◌, ◌<◌, pos, length, MatchOption};
-ghost use Rattle.gd_walks.specs.Steps.{Mends, amiss_at};
-ghost use Rattle.gd_flow.specs.Kept.{IsKept, Holds};
+ghost use Rattle.gd_network.specs.Steps.{Mends, amiss_at};
+ghost use Rattle.gd_flow.specs.Keeping.{IsKept, Holds};
 
-use gd_network::Network;
-use gd_walks::Step;
+use gd_network::{Network, Step};
 
 /// What is wrong with an arc: a step that brings it nearer to its bounds, and by how much it is out of them.
 #[derive(Clone, Copy, Debug)]

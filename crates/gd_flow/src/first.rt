@@ -1,7 +1,7 @@
 //! The flow with which a repair begins.
 
 ghost use Rattle.std.specs.Prelude.{IfOk};
-ghost use Rattle.gd_network.specs.Begun.{IsFirst};
+ghost use Rattle.gd_network.specs.Beginning.{IsFirst};
 ghost use Rattle.gd_network.specs.Flow.{IsCirculation};
 
 use gd_network::{Flow, Network};

@@ -3,9 +3,9 @@
 ghost use Rattle.std.specs.Prelude.{◌<◌, length, IfOk, OnOk, MatchOption};
 ghost use Rattle.gd_certificate.specs.Cutting.{IsShaped, Cuts};
 ghost use Rattle.gd_network.specs.Flow.{IsWithin};
-ghost use Rattle.gd_walks.specs.Steps.{IsNearer, Mends};
-ghost use Rattle.gd_flow.specs.Kept.{IsKept, Holds};
-ghost use Rattle.gd_flow.specs.Repaired.{Repairs};
+ghost use Rattle.gd_network.specs.Steps.{IsNearer, Mends};
+ghost use Rattle.gd_flow.specs.Keeping.{IsKept, Holds};
+ghost use Rattle.gd_flow.specs.Repair.{Repairs};
 ghost use Rattle.gd_flow.specs.Ways.{IsWay};
 
 use crate::Feasible;
@@ -14,8 +14,7 @@ use crate::faults::fault_of;
 use crate::first::first_flow;
 use crate::search::Search;
 use gd_certificate::Cut;
-use gd_network::{Flow, Network, reached_cut};
-use gd_walks::{Step, least_room, near_fits, push};
+use gd_network::{Flow, Network, Step, least_room, near_fits, push, reached_cut};
 use std::alloc::{AllocError, Global};
 
 /// What a repair comes to.

@@ -1,12 +1,11 @@
 //! The search for a walk from one node to another by steps that have room, breadth first.
 
 ghost use Rattle.std.specs.Prelude.{◌≡◌, ℕ, ◌+◌, ◌<◌, pos, ◌<ℤ◌, length, get_or, slice_set, true, false, replicate, ◌≢◌, IfOk, OnOk, MatchOption};
-ghost use Rattle.gd_walks.specs.Steps.{tail_of, head_of, room};
-ghost use Rattle.gd_flow.specs.Kept.{IsKept};
+ghost use Rattle.gd_network.specs.Steps.{tail_of, head_of, room};
+ghost use Rattle.gd_flow.specs.Keeping.{IsKept};
 ghost use Rattle.gd_flow.specs.Search.{find_at, IsSearch, IsTried, AreTried, Grows, Closes};
 
-use gd_network::Network;
-use gd_walks::Step;
+use gd_network::{Network, Step};
 use std::alloc::{AllocError, Global};
 
 /// A node that a search found, and the step that led to it from the node found at the place `before`.

@@ -8,9 +8,9 @@ use Rattle.std.proofs.Math.ListN.{get_or-append}
 use Rattle.std.specs.List.{IsDistinct, list_any}
 use Rattle.std.proofs.lemmas.Map.Steps.{length-le_from_distinct_below}
 use Rattle.std.proofs.lemmas.Bool.Decides.{nat_tests}
-use Rattle.gd_rules.specs.Scale.{Scale, IsBounded, IsRanked}
+use Rattle.gd_scale.specs.Scale.{Scale, IsBounded, IsRanked}
 use Rattle.gd_labels.specs.Links.{node_at}
-use Rattle.gd_labels.specs.Found.{label_at}
+use Rattle.gd_labels.specs.Findings.{label_at}
 use Rattle.gd_labels.specs.Events.{above, Chain, NotIn, AreEvents, slack}
 use Rattle.gd_labels.proofs.Order.{fits_more, fits_plus, rank_rises}
 

@@ -2,9 +2,9 @@
 use Rattle.std.proofs.Common.{◌≡◌, ◌≢◌, ℕ, ◌<◌, ◌≤◌, List, [], ◌∷◌, ◌++◌, length, Bool, true, false, refl, sym, ◌∙◌, ap, arith, get_or}
 use Rattle.std.specs.Prelude.{ℤ}
 use Rattle.std.proofs.lemmas.Bool.Decides.{nat_tests}
-use Rattle.gd_rules.specs.Scale.{Scale, IsLawful, IsAbove}
+use Rattle.gd_scale.specs.Scale.{Scale, IsLawful, IsAbove}
 use Rattle.gd_labels.specs.Links.{node_at, Trail, gain_of}
-use Rattle.gd_labels.specs.Found.{label_at}
+use Rattle.gd_labels.specs.Findings.{label_at}
 use Rattle.gd_labels.specs.Events.{above, AreEvents, Chain, NotIn}
 use Rattle.gd_labels.proofs.Chains.{avoids_start, avoids_more}
 use Rattle.gd_labels.proofs.Order.{above_through, gains, is_greater}

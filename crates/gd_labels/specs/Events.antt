@@ -2,9 +2,9 @@
 use Rattle.std.specs.Prelude.{◌≡◌, ℕ, ◌-◌, ◌*◌, ◌<◌, ◌≤◌, ℤ, pos, Bool, false, List, [], ◌∷◌, length, get_or, eqb, IsTrue, sum_by}
 use Rattle.std.specs.List.{IsDistinct, AllByRecursion}
 use Rattle.std.specs.Ordering.{is_gt}
-use Rattle.gd_rules.specs.Scale.{Scale}
+use Rattle.gd_scale.specs.Scale.{Scale}
 use Rattle.gd_labels.specs.Links.{node_at, most_gain}
-use Rattle.gd_labels.specs.Found.{label_at}
+use Rattle.gd_labels.specs.Findings.{label_at}
 
 -- Whether x is above y.
 abbrev pub above : {V : Type 0} → Scale V → V → V → Bool

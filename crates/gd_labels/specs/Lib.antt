@@ -1,4 +1,4 @@
 pub mod Links
-pub mod Found
+pub mod Findings
 pub mod Events
 pub mod Searches

@@ -1,6 +1,6 @@
 -- Links from node to node, walks along them, and what a walk gains.
 use Rattle.std.specs.Prelude.{◌≡◌, ◌≢◌, ℕ, ◌<◌, ℤ, pos, Bool, List, [], ◌∷◌, length, get_or, IsTrue}
-use Rattle.gd_rules.specs.Scale.{Scale}
+use Rattle.gd_scale.specs.Scale.{Scale}
 
 -- The node of this number in a list of nodes.
 abbrev pub node_at : List ℕ → ℕ → ℕ

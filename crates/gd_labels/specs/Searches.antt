@@ -1,8 +1,8 @@
 -- The same of a search among links, as it is kept.
 use Rattle.std.specs.Prelude.{ℕ, ◌*◌, ◌<◌, ℤ, Bool, List, length, map}
-use Rattle.gd_rules.specs.Scale.{Scale}
+use Rattle.gd_scale.specs.Scale.{Scale}
 use Rattle.gd_labels.specs.Links.{AreLinks, most_gain}
-use Rattle.gd_labels.specs.Found.{IsStill, IsGaining}
+use Rattle.gd_labels.specs.Findings.{IsStill, IsGaining}
 use Rattle.gd_labels.specs.Events.{AreEvents, AvoidsAt, reached_at, improves_at, slack}
 use Rattle.gd_labels.specs.declared.Links.{Links}
 use Rattle.gd_labels.specs.declared.search.Search.{Search}

@@ -8,7 +8,7 @@ mod sweep;
 
 ghost use Rattle.std.specs.Prelude.{◌≡◌, ◌<◌, ◌^◌, map, IfOk};
 ghost use Rattle.gd_labels.specs.Links.{AreLinks};
-ghost use Rattle.gd_labels.specs.Found.{IsFound};
+ghost use Rattle.gd_labels.specs.Findings.{IsFound};
 
 use gd_cost::Cost;
 use search::Search;

@@ -8,8 +8,8 @@ use Rattle.sqlite.specs.declared.types.Value.TheVariants.{Int, Blob}
 use Rattle.sqlite.proofs.Callers.{one_permutation}
 use Rattle.gd_board.specs.declared.posting.Posting.{Posting}
 use Rattle.gd_body.specs.Body.{IsBody, posting_in}
-use Rattle.gd_archive_store.specs.Kept.{entry, kept_at}
-use Rattle.gd_archive.specs.Sound.{is_of, number, posting_at, where_of}
+use Rattle.gd_archive_store.specs.Contents.{entry, kept_at}
+use Rattle.gd_archive.specs.Soundness.{is_of, number, posting_at, where_of}
 use Rattle.gd_archive.specs.declared.fault.Rule.{Rule}
 use Rattle.gd_archive.specs.declared.fault.Rule.TheVariants.{Classes, Spread}
 use Rattle.gd_archive.specs.Calls.{Fetches, Keeps, Tells}

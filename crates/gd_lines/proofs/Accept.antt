@@ -9,7 +9,7 @@ use Rattle.std.proofs.lemmas.List.Sums.{prefix_len-le-length, passes_at_first, p
 use borrow.Author.Tests.{ltb-true, lt-ltb}
 use Rattle.gd_rules.specs.Lines.{Key, Nomination, no_key, same_key, entered, lines_of, find}
 use Rattle.gd_lines.specs.Kept.{nomination_of, blank}
-use Rattle.gd_lines.specs.Numbered.{number_within, numbered}
+use Rattle.gd_lines.specs.Numbering.{number_within, numbered}
 use Rattle.gd_lines.specs.declared.fault.LinesFault.{LinesFault}
 use Rattle.gd_lines.specs.declared.fault.LinesFault.TheVariants.{TooManyLines}
 use Rattle.gd_lines.specs.declared.state.State.{State}

@@ -1,4 +1,4 @@
-pub mod Numbered
+pub mod Numbering
 pub mod Kept
 pub mod Names
 pub mod LinesInside

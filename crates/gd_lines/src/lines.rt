@@ -7,7 +7,7 @@ ghost use Rattle.indexmap.specs.IndexMap.{get, spare as sum_spare};
 ghost use Rattle.std.specs.List.{position_or_len};
 ghost use Rattle.gd_rules.specs.Lines as rules;
 ghost use Rattle.gd_lines.specs.Kept.{no_state, blank};
-ghost use Rattle.gd_lines.specs.Numbered.{numbered, nomination};
+ghost use Rattle.gd_lines.specs.Numbering.{numbered, nomination};
 
 use crate::state::{Accepted, State, fill_from};
 use crate::{LineKey, LinesFault, MAX_LINES};

@@ -1,7 +1,7 @@
 //! Three links in a ring.
 
 ghost use Rattle.std.specs.Prelude.{map, pos, IfOk, IsTrue};
-ghost use Rattle.gd_rules.specs.Words.{whole, word_fits};
+ghost use Rattle.gd_scale.specs.Words.{whole, word_fits};
 ghost use Rattle.gd_cost.specs.Parts.{number_of};
 ghost use Rattle.gd_labels.specs.Links.{AreLinks};
 

@@ -9,7 +9,7 @@ use Rattle.gd_calendar.specs.Calendar.{due, received_times}
 use Rattle.gd_machine.specs.declared.event.Event.TheVariants.{Freeze}
 use Rattle.gd_machine.specs.Day.{Day, IsDay, cycle_at, deadline}
 use Rattle.gd_machine.specs.History.{History, cycle_of, last_stamp, stamp_of}
-use Rattle.gd_machine.specs.Asked.{nominations, nomination_of}
+use Rattle.gd_machine.specs.Asking.{nominations, nomination_of}
 use Rattle.gd_machine.specs.Machine.{IsLegal, tests_of}
 use Rattle.gd_machine.specs.Headline.{ClosesIntakes}
 use Rattle.gd_machine.proofs.Steps.{stamp_more}

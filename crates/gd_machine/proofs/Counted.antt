@@ -10,7 +10,7 @@ use Rattle.gd_machine.specs.declared.event.Event.{Event}
 use Rattle.gd_machine.specs.declared.reply.Reply.{Reply}
 use Rattle.gd_machine.specs.Day.{Day}
 use Rattle.gd_machine.specs.History.{History}
-use Rattle.gd_machine.specs.Asked.{nomination_of, nominations}
+use Rattle.gd_machine.specs.Asking.{nomination_of, nominations}
 use Rattle.gd_machine.specs.Machine.{IsLegal}
 use Rattle.gd_machine.specs.Headline.{StandsInOne, IsAt, taken_in}
 use Rattle.gd_machine.proofs.Nominated.{nominations_more, prefix_in_day}

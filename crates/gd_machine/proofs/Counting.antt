@@ -14,11 +14,11 @@ use Rattle.gd_machine.specs.declared.reply.Reply.{Reply}
 use Rattle.gd_machine.specs.declared.reply.Reply.TheVariants.{Accepted}
 use Rattle.gd_machine.specs.Day.{Day}
 use Rattle.gd_machine.specs.History.{History, ends_cycle, is_freeze, cycle_of, round_of, stamp_of}
-use Rattle.gd_machine.specs.Asked.{nomination_of, nominations, class_in, line_count}
+use Rattle.gd_machine.specs.Asking.{nomination_of, nominations, class_in, line_count}
 use Rattle.gd_machine.specs.Machine.{IsAccepted, IsLegal}
 use Rattle.gd_machine.proofs.Nominated.{nominations_more, is_nominated, Rising, prefix_rising}
 use Rattle.gd_machine.proofs.Prefixes.{after_each}
-use Rattle.gd_lines.specs.Numbered.{nomination}
+use Rattle.gd_lines.specs.Numbering.{nomination}
 
 pub count_more : {X : Type 0} (f : X → Bool) (xs : List X) (x : X) → count_by f (xs ++ x ∷ []) ≡ count_by f xs + cond (f x) 1 0
 count_more f xs x = sum_by-append (λ y. cond (f y) 1 0) xs (x ∷ []) ∙ ap (λ n. count_by f xs + n) (alone (cond (f x) 1 0))

@@ -18,13 +18,13 @@ use Rattle.gd_system.specs.Route.{ends_of}
 use Rattle.gd_system.specs.declared.part.Ends.{Ends}
 use Rattle.gd_system.specs.declared.RouteFault.{RouteFault}
 use Rattle.gd_certificate.specs.Checked.{Certificate, IsRight}
-use Rattle.gd_question.specs.Posed.{Posed}
+use Rattle.gd_question.specs.Posing.{Posed}
 use Rattle.gd_machine.specs.declared.event.Event.{Event}
 use Rattle.gd_machine.specs.declared.event.Event.TheVariants.{Nominate, Respond, PostCapacity, Freeze, Publish, Declare, Waive, Skip}
 use Rattle.gd_machine.specs.declared.reply.Reply.{Reply}
 use Rattle.gd_machine.specs.Day.{Day, IsDay, length_of}
 use Rattle.gd_machine.specs.History.{History, cycle_of, schedules, scheduled, is_waived}
-use Rattle.gd_machine.specs.Asked.{nominations, counted, line_count, key_of, class_of, former_of, elapsed_of, confirmed_of, floor_of, line_over, line_of, question}
+use Rattle.gd_machine.specs.Asking.{nominations, counted, line_count, key_of, class_of, former_of, elapsed_of, confirmed_of, floor_of, line_over, line_of, question}
 use Rattle.gd_machine.specs.Known.{IsRouted, flowed_until}
 use Rattle.gd_machine.specs.Machine.{IsAccepted, IsLegal, AllPass, Passes, tests_of}
 use Rattle.gd_machine.specs.Same.{same_question}
@@ -37,7 +37,7 @@ use Rattle.gd_machine.proofs.Counting.{cycle_more, prefix_split, line_count_grow
 
 -- ---- hours
 
-passed_few : (n : ℕ) → gas_day.elapsed n ≤ 13
+passed_few : (n : ℕ) → gas_day.hours_over n ≤ 13
 passed_few n = go (n - 1)
   where
     go : (i : ℕ) → get_or (0 ∷ 0 ∷ 5 ∷ 9 ∷ 13 ∷ []) i 0 ≤ 13
@@ -48,7 +48,7 @@ passed_few n = go (n - 1)
     go (suc (suc (suc (suc zero)))) = omega arith
     go (suc (suc (suc (suc (suc i))))) = omega arith
 
-pub passed_within : (day : Day) → IsDay day → (n : ℕ) → gas_day.elapsed n ≤ length_of day
+pub passed_within : (day : Day) → IsDay day → (n : ℕ) → gas_day.hours_over n ≤ length_of day
 passed_within day is_day n = let few = passed_few n in let long = is_day.calendar.hours.1 in omega (arith, few, long)
 
 -- ---- the elapsed quantity by its schedules
@@ -147,14 +147,14 @@ pub record Flows (day : Day) (h : History) : Type 0 where
 
 module _ (day : Day) (is_day : IsDay day) where
   pub covers : (h : History) → Flows day h → (line : ℕ) → elapsed_of day h line ≤ scheduled h line (cycle_of h - 1)
-  covers h flows line = elapsed_within gas_day.elapsed (length_of day) (scheduled h line) (cycle_of h) (passed_within day is_day) (flows.flowing line)
+  covers h flows line = elapsed_within gas_day.hours_over (length_of day) (scheduled h line) (cycle_of h) (passed_within day is_day) (flows.flowing line)
 
   -- an event that ends no cycle
   flows_on : (h : History) (p : Event × Reply) → schedules (h ++ p ∷ []) ≡ schedules h → cycle_of (h ++ p ∷ []) ≡ cycle_of h → line_count day h ≤ line_count day (h ++ p ∷ []) → Flows day h → Flows day (h ++ p ∷ [])
   flows_on h p same cycle grows flows = record {
     sized = ap length same ∙ flows.sized ∙ sym cycle;
     fresh = λ line past c. ap (λ ss. quantity (get_or ss c []) line) same ∙ flows.fresh line (omega (arith, grows, past)) c;
-    flowing = λ line c low high. subst (λ ss. bounds.elapsed gas_day.elapsed (length_of day) (λ n. quantity (get_or ss n []) line) c ≤ quantity (get_or ss c []) line) (sym same) (flows.flowing line c low (omega (arith, cycle, high)));
+    flowing = λ line c low high. subst (λ ss. bounds.elapsed gas_day.hours_over (length_of day) (λ n. quantity (get_or ss n []) line) c ≤ quantity (get_or ss c []) line) (sym same) (flows.flowing line c low (omega (arith, cycle, high)));
   }
 
   -- an event that ends the cycle, with this schedule in effect after it
@@ -173,7 +173,7 @@ module _ (day : Day) (is_day : IsDay day) where
           ap (λ ss. quantity (get_or ss c []) line) more ∙ ap (λ t. quantity t line) (get_or_append_left (schedules h) (s ∷ []) [] c (omega (arith, k, n)))
 
       gone_before : (line c : ℕ) → c ≤ cycle_of h → flowed_until day (h ++ p ∷ []) line c ≡ flowed_until day h line c
-      gone_before line c k = elapsed_same gas_day.elapsed (length_of day) (scheduled (h ++ p ∷ []) line) (scheduled h line) c (λ i j. as_before line i (omega (arith, j, k)))
+      gone_before line c k = elapsed_same gas_day.hours_over (length_of day) (scheduled (h ++ p ∷ []) line) (scheduled h line) c (λ i j. as_before line i (omega (arith, j, k)))
 
       now : (line c : ℕ) → c ≡ cycle_of h → scheduled (h ++ p ∷ []) line c ≡ quantity s line
       now line c e =

@@ -20,7 +20,7 @@ use Rattle.gd_machine.specs.declared.event.Event.TheVariants.{Declare}
 use Rattle.gd_machine.specs.declared.reply.Reply.{Reply}
 use Rattle.gd_machine.specs.Day.{Day, length_of}
 use Rattle.gd_machine.specs.History.{History, cycle_of, scheduled, is_waived}
-use Rattle.gd_machine.specs.Asked.{question, line_over, line_of, line_count, floor_of, class_of, former_of, confirmed_of}
+use Rattle.gd_machine.specs.Asking.{question, line_over, line_of, line_count, floor_of, class_of, former_of, confirmed_of}
 use Rattle.gd_machine.specs.Machine.{IsLegal, tests_of, cuts, is_cut}
 use Rattle.gd_machine.specs.Headline.{IsAt}
 use Rattle.gd_machine.proofs.Legal.{all_false, not_false}
@@ -66,7 +66,7 @@ each_mapped f (n ∷ ns) h zero = h n
 each_mapped f (n ∷ ns) h (suc i) = each_mapped f ns h i
 
 pub timely_has_no_floors : (day : Day) (h : History) → cycle_of h ≡ 1 → (i : ℕ) → (line (question day h).asked i).floor ≡ 0
-timely_has_no_floors day h e i = each_mapped (λ n. line_of day h n) (range_with_len 0 (line_count day h)) (λ n. over_floor day.held.pipeline _ _ (floor_of day h n) _ (timely_floor gas_day.elapsed (length_of day) (scheduled h n) (class_of day h n) (is_waived h n) (former_of day h n) (confirmed_of day h n) (cycle_of h) e)) i
+timely_has_no_floors day h e i = each_mapped (λ n. line_of day h n) (range_with_len 0 (line_count day h)) (λ n. over_floor day.held.pipeline _ _ (floor_of day h n) _ (timely_floor gas_day.hours_over (length_of day) (scheduled h n) (class_of day h n) (is_waived h n) (former_of day h n) (confirmed_of day h n) (cycle_of h) e)) i
 
 pub timely_is_not_declared : (day : Day) (h : History) → IsLegal day h → (k moment round : ℕ) (cut : Members) (reply : Reply) → IsAt h k (Declare moment round cut, reply) → cycle_of (take k h) ≡ 1 → ⊥
 timely_is_not_declared day h legal k moment round cut reply at e =

@@ -10,7 +10,7 @@ use Rattle.gd_machine.specs.declared.reply.Reply.{Reply}
 use Rattle.gd_machine.specs.declared.refusal.Refusal.{Refusal}
 use Rattle.gd_machine.specs.Day.{Day}
 use Rattle.gd_machine.specs.History.{History}
-use Rattle.gd_machine.specs.Asked.{question}
+use Rattle.gd_machine.specs.Asking.{question}
 use Rattle.gd_machine.specs.Machine.{first, tests_of, IsLegal, AllPass}
 use Rattle.gd_machine.specs.Same.{same_question}
 use Rattle.gd_machine.specs.Headline.{PublishesBest, IsAt}

@@ -9,14 +9,14 @@ use Rattle.gd_tree.proofs.Along.{routes}
 use Rattle.gd_system.specs.Pipeline.{Pipeline, elements_of}
 use Rattle.gd_system.specs.Route.{AreEnds}
 use Rattle.gd_system.specs.declared.part.Ends.{Ends}
-use Rattle.gd_system.proofs.Told.{told_are}
-use Rattle.gd_question.specs.Posed.{with_limit, line_between}
+use Rattle.gd_system.proofs.NamedEnds.{told_are}
+use Rattle.gd_question.specs.Posing.{with_limit, line_between}
 use Rattle.gd_question.proofs.InForceLemmas.{Alike, place-alike, sends-alike, takes-alike, follows-alike}
 use Rattle.gd_machine.specs.declared.event.Event.{Event}
 use Rattle.gd_machine.specs.declared.event.Event.TheVariants.{PostCapacity}
 use Rattle.gd_machine.specs.Day.{Day, IsDay}
 use Rattle.gd_machine.specs.History.{History, elements_after, elements_in_force}
-use Rattle.gd_machine.specs.Asked.{line_count, key_of, class_of, floor_of, confirmed_of, line_over, line_of, question}
+use Rattle.gd_machine.specs.Asking.{line_count, key_of, class_of, floor_of, confirmed_of, line_over, line_of, question}
 use Rattle.gd_machine.specs.Known.{IsRouted, IsClassed, IsSound}
 use Rattle.gd_machine.proofs.Flowing.{key_holds, question_length, question_line}
 

@@ -11,7 +11,7 @@ use Rattle.gd_rules.specs.GasDay as gas_day
 use Rattle.gd_rules.specs.Lines.{Key, Nomination}
 use Rattle.gd_rules.specs.Limits.{classes}
 use Rattle.gd_calendar.specs.Calendar.{received_times}
-use Rattle.gd_lines.specs.Numbered.{nomination}
+use Rattle.gd_lines.specs.Numbering.{nomination}
 use Rattle.gd_system.specs.Pipeline.{Pipeline}
 use Rattle.gd_system.specs.Route.{ends_of}
 use Rattle.gd_system.specs.declared.part.Ends.{Ends}
@@ -29,7 +29,7 @@ use Rattle.gd_machine.specs.declared.reply.Reply.TheVariants.{Accepted}
 use Rattle.gd_machine.specs.declared.refusal.Refusal.{Refusal}
 use Rattle.gd_machine.specs.Day.{Day, IsDay, cycle_at}
 use Rattle.gd_machine.specs.History.{History, last_stamp, stamp_of}
-use Rattle.gd_machine.specs.Asked.{nomination_of, nominations, class_in}
+use Rattle.gd_machine.specs.Asking.{nomination_of, nominations, class_in}
 use Rattle.gd_machine.specs.Known.{IsRouted, IsClassed}
 use Rattle.gd_machine.specs.Machine.{IsAccepted, IsLegal, tests_of, route_tests, contract_of}
 use Rattle.gd_machine.proofs.Legal.{AllFalse, all_false}

@@ -9,7 +9,7 @@ use Rattle.gd_units.specs.declared.service.Kind.TheVariants as kind
 use Rattle.gd_system.specs.declared.part.Point.{Point}
 use Rattle.gd_system.specs.declared.part.Pool.{Pool as OnePool}
 use Rattle.gd_system.specs.Pipeline.{Pipeline, same_name}
-use Rattle.gd_question.specs.Posed.{Posed}
+use Rattle.gd_question.specs.Posing.{Posed}
 use Rattle.gd_machine.specs.Same.{same_element, same_line, same_kind, same_point, same_pool, same_pipeline, same_asked, same_question}
 
 -- ---- where the test is true the two are equal

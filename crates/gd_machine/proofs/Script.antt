@@ -7,7 +7,7 @@ use Rattle.gd_units.specs.declared.service.Kind.TheVariants.{Receipt, Delivery}
 use Rattle.gd_system.specs.Pipeline.{Pipeline}
 use Rattle.gd_contracts.specs.declared.contract.Contract.{Contract}
 use Rattle.gd_contracts.specs.declared.contract.Service.TheVariants.{Firm, Interruptible}
-use Rattle.gd_question.specs.Posed.{Posed}
+use Rattle.gd_question.specs.Posing.{Posed}
 use Rattle.gd_machine.specs.declared.event.Event.{Event}
 use Rattle.gd_machine.specs.declared.event.Event.TheVariants.{Publish}
 use Rattle.gd_machine.specs.declared.reply.Reply.{Reply}

@@ -7,7 +7,7 @@ use Rattle.gd_rules.specs.GasDay as gas_day
 use Rattle.gd_units.specs.declared.service.End.TheVariants.{Origin, Dest}
 use Rattle.gd_machine.specs.Day.{Day, IsDay, length_of, carried}
 use Rattle.gd_machine.specs.History.{History, cycle_of, scheduled, response_of, is_waived}
-use Rattle.gd_machine.specs.Asked.{key_of, nominated_of, former_of, elapsed_of, confirmed_of, floor_of, class_of}
+use Rattle.gd_machine.specs.Asking.{key_of, nominated_of, former_of, elapsed_of, confirmed_of, floor_of, class_of}
 use Rattle.gd_machine.specs.Known.{IsSound}
 use Rattle.gd_machine.specs.Machine.{IsLegal, AllPass}
 use Rattle.gd_machine.proofs.Nominated.{prefix_routed, prefix_classed, prefix_in_day, prefix_rising}
@@ -35,7 +35,7 @@ floor_within false elapsed former confirmed h = h
 
 module _ (day : Day) (is_day : IsDay day) where
   first_elapsed : (h : History) (line : ℕ) → cycle_of h ≡ 1 → elapsed_of day h line ≡ 0
-  first_elapsed h line e = ap (bounds.elapsed gas_day.elapsed (length_of day) (scheduled h line)) e
+  first_elapsed h line e = ap (bounds.elapsed gas_day.hours_over (length_of day) (scheduled h line)) e
 
   former_covers : (h : History) → Flows day h → (line : ℕ) → elapsed_of day h line ≤ former_of day h line
   former_covers h flows line = go (cycle_of h == 1) refl

@@ -12,13 +12,13 @@ use Rattle.gd_units.specs.declared.service.End.{End}
 use Rattle.gd_units.specs.declared.service.End.TheVariants.{Origin, Dest}
 use Rattle.gd_system.specs.Pipeline.{elements_of}
 use Rattle.gd_system.specs.Route.{ends_of}
-use Rattle.gd_question.specs.Posed.{Posed}
+use Rattle.gd_question.specs.Posing.{Posed}
 use Rattle.gd_machine.specs.declared.event.Event.{Event}
 use Rattle.gd_machine.specs.declared.event.Event.TheVariants.{Nominate, Respond, PostCapacity, Freeze, Publish, Declare, Waive, Skip}
 use Rattle.gd_machine.specs.declared.reply.Reply.{Reply}
 use Rattle.gd_machine.specs.Day.{Day, IsDay, cycle_at, deadline, carried, length_of}
 use Rattle.gd_machine.specs.History.{History, last_stamp, stamp_of, cycle_of, round_of, is_frozen}
-use Rattle.gd_machine.specs.Asked.{nominations, counted, class_in, line_over, question}
+use Rattle.gd_machine.specs.Asking.{nominations, counted, class_in, line_over, question}
 use Rattle.gd_machine.specs.Machine.{IsAccepted, IsLegal, tests_of}
 use Rattle.gd_machine.proofs.Steps.{stamp_more, frozen_more, response_more, waived_more, elements_more, schedules_more}
 use Rattle.gd_machine.proofs.Legal.{all_false}
@@ -81,7 +81,7 @@ module _ (day : Day) (cycle round : ℕ) (elements : List Element) (counting : L
   former_at line = if cycle == 1 then carried day (key_at line) else scheduled_at line (cycle - 1)
 
   abbrev elapsed_at : ℕ → ℕ
-  elapsed_at line = bounds.elapsed gas_day.elapsed (length_of day) (scheduled_at line) cycle
+  elapsed_at line = bounds.elapsed gas_day.hours_over (length_of day) (scheduled_at line) cycle
 
   abbrev confirmed_at : ℕ → ℕ
   confirmed_at line = bounds.confirmed cycle (last_quantity (of_line (key_at line) counting)) (response line Origin) (response line Dest) (former_at line) (elapsed_at line)

@@ -12,14 +12,14 @@ use Rattle.gd_machine.proofs.Steps.{stamp_more}
 use Rattle.std.proofs.lemmas.List.Quantifiers.{position-Some}
 use Rattle.gd_rules.specs.GasDay as gas_day
 use Rattle.gd_rules.specs.Lines.{until}
-use Rattle.gd_lines.specs.Numbered.{nomination}
+use Rattle.gd_lines.specs.Numbering.{nomination}
 use Rattle.gd_machine.specs.declared.event.Event.{Event}
 use Rattle.gd_machine.specs.declared.event.Event.TheVariants.{Nominate}
 use Rattle.gd_machine.specs.declared.reply.Reply.{Reply}
 use Rattle.gd_machine.specs.declared.reply.Reply.TheVariants.{Accepted}
 use Rattle.gd_machine.specs.Day.{Day, cycle_at}
 use Rattle.gd_machine.specs.History.{History, last_stamp, stamp_of}
-use Rattle.gd_machine.specs.Asked.{nomination_of, nominations, class_in}
+use Rattle.gd_machine.specs.Asking.{nomination_of, nominations, class_in}
 use Rattle.gd_machine.specs.Machine.{IsAccepted, IsLegal, tests_of}
 use Rattle.gd_machine.proofs.Legal.{all_false}
 

@@ -11,7 +11,7 @@ use Rattle.gd_machine.specs.declared.event.Event.TheVariants.{Freeze, Publish, D
 use Rattle.gd_machine.specs.declared.reply.Reply.{Reply}
 use Rattle.gd_machine.specs.Day.{Day, IsDay}
 use Rattle.gd_machine.specs.History.{History, cycle_of}
-use Rattle.gd_machine.specs.Asked.{question, nomination_of, nominations, counted}
+use Rattle.gd_machine.specs.Asking.{question, nomination_of, nominations, counted}
 use Rattle.gd_machine.specs.Machine.{IsLegal, AllPass}
 
 -- The pair with this number from 0 is one of the history.

@@ -5,7 +5,7 @@ use Rattle.std.specs.List.{count_by}
 use Rattle.gd_rules.specs.Question.{Element}
 use Rattle.gd_rules.specs.Question.Element.{Pool}
 use Rattle.gd_rules.specs.Schedule.{quantity}
-use Rattle.gd_question.specs.Posed.{with_limit}
+use Rattle.gd_question.specs.Posing.{with_limit}
 use Rattle.gd_units.specs.declared.service.End.{End}
 use Rattle.gd_units.specs.declared.service.End.TheVariants.{Origin, Dest}
 use Rattle.gd_machine.specs.declared.event.Event.{Event}

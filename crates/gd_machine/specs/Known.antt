@@ -9,7 +9,7 @@ use Rattle.gd_system.specs.declared.part.Ends.{Ends}
 use Rattle.gd_contracts.specs.Classes.{class_told}
 use Rattle.gd_machine.specs.Day.{Day, cycle_at, length_of}
 use Rattle.gd_machine.specs.History.{History, cycle_of, is_frozen, last_stamp, scheduled}
-use Rattle.gd_machine.specs.Asked.{nominations, class_in, elapsed_of, former_of, floor_of, confirmed_of}
+use Rattle.gd_machine.specs.Asking.{nominations, class_in, elapsed_of, former_of, floor_of, confirmed_of}
 
 -- A route leads from the line's origin to its destination.
 abbrev pub IsRouted : Day → Key → Type 0
@@ -21,7 +21,7 @@ IsClassed day key = (class_told day.held key.contract key.origin key.dest ≡ Ok
 
 -- What has flowed of a line when a cycle takes effect, by the schedules in effect.
 abbrev pub flowed_until : Day → History → ℕ → ℕ → ℕ
-flowed_until day h line cycle = bounds.elapsed gas_day.elapsed (length_of day) (scheduled h line) cycle
+flowed_until day h line cycle = bounds.elapsed gas_day.hours_over (length_of day) (scheduled h line) cycle
 
 pub record IsSound (day : Day) (h : History) : Type 0 where
   -- each accepted nomination is of a line with a route and a class

@@ -1,6 +1,6 @@
 pub mod Day
 pub mod History
-pub mod Asked
+pub mod Asking
 pub mod Same
 pub mod Machine
 pub mod Headline

@@ -16,8 +16,8 @@ use Rattle.gd_system.specs.declared.part.Ends.{Ends}
 use Rattle.gd_system.specs.declared.RouteFault.{RouteFault}
 use Rattle.gd_contracts.specs.Held.{contract_named}
 use Rattle.gd_contracts.specs.declared.contract.Contract.{Contract}
-use Rattle.gd_lines.specs.Numbered.{nomination, numbered}
-use Rattle.gd_question.specs.Posed.{Posed, limit_fault}
+use Rattle.gd_lines.specs.Numbering.{nomination, numbered}
+use Rattle.gd_question.specs.Posing.{Posed, limit_fault}
 use Rattle.gd_certificate.specs.Checked.{IsRight}
 use Rattle.gd_certificate.specs.Cutting.{Members, side_of}
 use Rattle.gd_certificate.specs.declared.cut.CutFault.TheVariants.{Shape, NotCut}
@@ -31,7 +31,7 @@ use Rattle.gd_machine.specs.declared.refusal.Refusal.{Refusal}
 use Rattle.gd_machine.specs.declared.refusal.Refusal.TheVariants.{DayClosed, UnknownContract, NotShipper, Route, OverContract, TooManyLines, TooManyEvents, AllSettled, Frozen, UnknownLine, NotOperator, UnknownElement, IsPool, TooEarly, NotFrozen, StaleRound, OtherQuestion, NoCutProof, NoCut, OutOfMemory, BoardTaken}
 use Rattle.gd_machine.specs.Day.{Day, cycle_at, deadline}
 use Rattle.gd_machine.specs.History.{History, stamp_of, cycle_of, round_of, is_frozen, has_cut}
-use Rattle.gd_machine.specs.Asked.{nominations, key_of, line_count, question, bumped_lines}
+use Rattle.gd_machine.specs.Asking.{nominations, key_of, line_count, question, bumped_lines}
 use Rattle.gd_machine.specs.Same.{same_question}
 
 -- ---- what the tests ask

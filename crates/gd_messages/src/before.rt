@@ -99,15 +99,22 @@ impl Before {
         self.previous = Some(kind);
     }
 
-    /// Takes the rows before one into account, where none was so far.
-    pub(crate) fn take_all(&mut self, spot: Spot) -> Result<(), AllocError> {
-        let mut records = Records::of(spot.text.alloc, spot.text.bytes);
-        for _ in 1..spot.number {
+    /// Takes the records before the one with this number into account.
+    fn take_before(&mut self, records: &mut Records<'_>, number: u64) -> Result<(), AllocError> {
+        for _ in 1..number {
             if !records.advance()? {
                 break;
             }
-            self.take(&records);
+            self.take(records);
         }
         Ok(())
+    }
+
+    /// Takes the rows before one into account, where none was so far.
+    pub(crate) fn take_all(&mut self, spot: Spot) -> Result<(), AllocError> {
+        let mut records = Records::of(spot.text.alloc, spot.text.bytes);
+        let taken = self.take_before(&mut records, spot.number);
+        drop(records);
+        taken
     }
 }

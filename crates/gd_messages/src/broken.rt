@@ -148,11 +148,11 @@ fn told_of_load(
     };
     let word = part_word(&part);
     let told = if fault == "OverCapacity" {
-        told_of_over(alloc, name, word, load, capacity)?
+        told_of_over(alloc, name, word, load, capacity)
     } else {
-        told_of_slack(alloc, name, word, load, capacity)?
+        told_of_slack(alloc, name, word, load, capacity)
     };
-    Ok(Some(told))
+    Ok(Some(told?))
 }
 
 /// What is told of a fault at a segment or point.
@@ -167,7 +167,9 @@ fn told_of_element(
         Err(TextFault::OutOfMemory) => return Err(AllocError),
         Err(_) => return Ok(None),
     };
-    match load_of(&asked, name) {
+    let found = load_of(&asked, name);
+    drop(asked);
+    match found {
         Some((load, capacity)) => told_of_load(alloc, rows, fault, name, load, capacity),
         None => Ok(None),
     }
@@ -198,25 +200,32 @@ fn told_of_named(
     }
 }
 
-/// What is told of a fault by what the text has, where that is found.
-fn told_by_rows(text: Text, printed: Printed) -> Result<Option<String>, AllocError> {
+/// What is told of a fault by what these rows have, where that is found.
+fn told_of_rows(text: Text, rows: &[Row], printed: Printed) -> Result<Option<String>, AllocError> {
     let alloc = text.alloc;
-    let rows = text.rows()?;
     let fault = printed.field(2);
     if rows.is_empty() {
         return Ok(None);
     }
     match fault {
-        "Shape" => told_of_shape(alloc, rows.as_slice()),
-        "NotCut" => told_of_cut(alloc, rows.as_slice()),
+        "Shape" => told_of_shape(alloc, rows),
+        "NotCut" => told_of_cut(alloc, rows),
         "BelowFloor" | "AboveCeiling" | "Underfilled" | "Overfilled" => {
-            told_of_line(text, rows.as_slice(), fault, printed.number(3))
+            told_of_line(text, rows, fault, printed.number(3))
         }
         "OverCapacity" | "Unbalanced" | "PriceTooLarge" | "PriceOnSlack" => {
-            told_of_named(alloc, rows.as_slice(), fault, printed.field(3))
+            told_of_named(alloc, rows, fault, printed.field(3))
         }
         _ => Ok(None),
     }
+}
+
+/// What is told of a fault by what the text has, where that is found.
+fn told_by_rows(text: Text, printed: Printed) -> Result<Option<String>, AllocError> {
+    let rows = text.rows()?;
+    let told = told_of_rows(text, rows.as_slice(), printed);
+    drop(rows);
+    told
 }
 
 /// What is told of a schedule, of prices or of a set that is broken.

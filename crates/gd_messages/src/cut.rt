@@ -141,6 +141,7 @@ pub(crate) fn told_of_cut(alloc: Global, rows: &[Row]) -> Result<Option<String>,
     let offered = Offered::of(alloc, rows)?;
     let sums = Sums::of(&offered, rows);
     let (floors, ceilings, capacities) = (sums.floors, sums.ceilings, sums.capacities);
+    drop(offered);
     let told = format!(in alloc;
         "the set is no cut: the lines that lead out of it have floors of {floors} in all, and that is no more than the ceilings of {ceilings} of those that lead in and the capacities of {capacities} of what leads out"
     )?;

@@ -88,14 +88,14 @@ pub(crate) fn told_of_ends(
             } else {
                 origin
             };
-            told_of_unknown(refused, unknown, Sought::End)?
+            told_of_unknown(refused, unknown, Sought::End)
         }
-        "WrongEnd" => told_of_wrong(refused, what, origin, dest)?,
+        "WrongEnd" => told_of_wrong(refused, what, origin, dest),
         "SameEnd" => format!(in alloc;
             "{place}: the {what} begins and ends at {origin}; its two ends have to differ"
-        )?,
-        "NoRoute" => told_of_no_route(refused, origin, dest)?,
+        ),
+        "NoRoute" => told_of_no_route(refused, origin, dest),
         _ => return Ok(None),
     };
-    Ok(Some(told))
+    Ok(Some(told?))
 }

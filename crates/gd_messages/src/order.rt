@@ -119,14 +119,21 @@ fn told_of_misplaced(spot: Spot, form: Form, kind: RowKind) -> Result<String, Al
     }
 }
 
-/// What is told of a row that the command doesn't take, or not where it stands.
-pub(crate) fn told_of_order(spot: Spot) -> Result<Option<String>, AllocError> {
-    let (Some(form), Some(record)) = (spot.text.form, spot.record()?) else {
+/// The kind of a row, where it has one.
+fn kind_at(spot: Spot) -> Result<Option<RowKind>, AllocError> {
+    let Some(record) = spot.record()? else {
         return Ok(None);
     };
-    match kind_of(record.field(1)) {
-        Some(kind) => Ok(Some(told_of_misplaced(spot, form, kind)?)),
-        None => Ok(None),
+    let kind = kind_of(record.field(1));
+    drop(record);
+    Ok(kind)
+}
+
+/// What is told of a row that the command doesn't take, or not where it stands.
+pub(crate) fn told_of_order(spot: Spot) -> Result<Option<String>, AllocError> {
+    match (spot.text.form, kind_at(spot)?) {
+        (Some(form), Some(kind)) => Ok(Some(told_of_misplaced(spot, form, kind)?)),
+        _ => Ok(None),
     }
 }
 
@@ -150,12 +157,14 @@ pub(crate) fn told_of_limit(spot: Spot) -> Result<Option<String>, AllocError> {
         return Ok(None);
     };
     let place = spot.text.line(record.line());
-    let told = if kind_of(record.field(1)) == Some(RowKind::Session) {
+    let is_session = kind_of(record.field(1)) == Some(RowKind::Session);
+    drop(record);
+    let told = if is_session {
         format!(in alloc;
             "{place}: this is one session too many; there are at most 64 between two desk rows, and 1024 of a slot"
-        )?
+        )
     } else {
-        format!(in alloc; "{place}: this block is one too many; an office has at most 64")?
+        format!(in alloc; "{place}: this block is one too many; an office has at most 64")
     };
-    Ok(Some(told))
+    Ok(Some(told?))
 }

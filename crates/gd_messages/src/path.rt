@@ -85,17 +85,9 @@ fn in_common(a: &[Joint], b: &[Joint]) -> usize {
         .count()
 }
 
-/// The first segment that is passed against its direction on the way from one place to another.
-pub(crate) fn against(
-    alloc: Global,
-    rows: &[Row],
-    from: Name,
-    to: Name,
-) -> Result<Option<Joint>, AllocError> {
-    let joints = joints_of(alloc, rows)?;
-    let up = way_back(alloc, joints.as_slice(), from)?;
-    let down = way_back(alloc, joints.as_slice(), to)?;
-    let common = in_common(up.as_slice(), down.as_slice());
+/// The first segment that is passed against its direction, where one way back is gone and then the other one, from its end.
+fn first_against(up: &[Joint], down: &[Joint]) -> Option<Joint> {
+    let common = in_common(up, down);
     let first = up
         .iter()
         .take(up.len().saturating_sub(common))
@@ -105,5 +97,36 @@ pub(crate) fn against(
         .take(down.len().saturating_sub(common))
         .rev()
         .find(|joint| !joint.leads_away);
-    Ok(first.or(second).copied())
+    first.or(second).copied()
+}
+
+/// The first of these segments that is passed against its direction on the way from one place to another.
+fn against_among(
+    alloc: Global,
+    joints: &[Joint],
+    from: Name,
+    to: Name,
+) -> Result<Option<Joint>, AllocError> {
+    let up = way_back(alloc, joints, from)?;
+    let Ok(down) = way_back(alloc, joints, to) else {
+        drop(up);
+        return Err(AllocError);
+    };
+    let first = first_against(up.as_slice(), down.as_slice());
+    drop(up);
+    drop(down);
+    Ok(first)
+}
+
+/// The first segment that is passed against its direction on the way from one place to another.
+pub(crate) fn against(
+    alloc: Global,
+    rows: &[Row],
+    from: Name,
+    to: Name,
+) -> Result<Option<Joint>, AllocError> {
+    let joints = joints_of(alloc, rows)?;
+    let first = against_among(alloc, joints.as_slice(), from, to);
+    drop(joints);
+    first
 }

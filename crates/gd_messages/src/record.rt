@@ -102,6 +102,16 @@ impl<'t> Records<'t> {
     }
 }
 
+/// Takes records up to the one with this number, or finds that there are fewer.
+fn find(records: &mut Records<'_>, number: u64) -> Result<bool, AllocError> {
+    for _ in 0..number.min(MAX_ROWS) {
+        if !records.advance()? {
+            return Ok(false);
+        }
+    }
+    Ok(true)
+}
+
 /// The records of a text up to the one with this number, which was taken last; `None` where there are fewer.
 pub(crate) fn record_at(
     alloc: Global,
@@ -109,10 +119,15 @@ pub(crate) fn record_at(
     number: u64,
 ) -> Result<Option<Records<'_>>, AllocError> {
     let mut records = Records::of(alloc, text);
-    for _ in 0..number.min(MAX_ROWS) {
-        if !records.advance()? {
-            return Ok(None);
+    match find(&mut records, number) {
+        Ok(true) => Ok(Some(records)),
+        Ok(false) => {
+            drop(records);
+            Ok(None)
+        }
+        Err(fault) => {
+            drop(records);
+            Err(fault)
         }
     }
-    Ok(Some(records))
 }

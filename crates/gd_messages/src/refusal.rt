@@ -134,14 +134,14 @@ fn told_of_line(
     let told = match refused.name {
         "FloorAboveCeiling" => format!(in alloc;
             "{place}: the floor {floor} is above the ceiling {ceiling}; a line's floor is at most its ceiling"
-        )?,
-        "BadClass" => format!(in alloc; "{place}: the class is {class}; classes are 1 to 8")?,
+        ),
+        "BadClass" => format!(in alloc; "{place}: the class is {class}; classes are 1 to 8"),
         "TooMany" => {
-            format!(in alloc; "{place}: this line is one too many; a question has at most 20000")?
+            format!(in alloc; "{place}: this line is one too many; a question has at most 20000")
         }
         _ => return Ok(None),
     };
-    Ok(Some(told))
+    Ok(Some(told?))
 }
 
 /// What is told of another capacity.
@@ -188,9 +188,8 @@ fn told_of_row(spot: Spot, refused: Refused, row: &Row) -> Result<Option<String>
     }
 }
 
-/// What is told of a row that a builder refuses for a reason of this name, where the row is found again.
-pub(crate) fn told_of_refusal(spot: Spot, name: &str) -> Result<Option<String>, AllocError> {
-    let rows = spot.text.rows()?;
+/// What is told of a row of these that a builder refuses for a reason of this name.
+fn told_among(spot: Spot, name: &str, rows: &[Row]) -> Result<Option<String>, AllocError> {
     let at = spot.number.saturating_sub(1) as usize;
     let (Some(row), Some(all)) = (rows.get(at), rows.get(..at)) else {
         return Ok(None);
@@ -203,4 +202,12 @@ pub(crate) fn told_of_refusal(spot: Spot, name: &str) -> Result<Option<String>, 
         before: all.get(block_start(spot.text.form, all)..).unwrap_or(all),
     };
     told_of_row(spot, refused, row)
+}
+
+/// What is told of a row that a builder refuses for a reason of this name, where the row is found again.
+pub(crate) fn told_of_refusal(spot: Spot, name: &str) -> Result<Option<String>, AllocError> {
+    let rows = spot.text.rows()?;
+    let told = told_among(spot, name, rows.as_slice());
+    drop(rows);
+    told
 }

@@ -67,7 +67,11 @@ impl<'t> Text<'t> {
     /// Where the row with this number stands.
     pub(crate) fn place(&self, number: u64) -> Result<Place<'t>, AllocError> {
         match record_at(self.alloc, self.bytes, number)? {
-            Some(record) => Ok(self.line(record.line())),
+            Some(record) => {
+                let place = self.line(record.line());
+                drop(record);
+                Ok(place)
+            }
             None => Ok(Place::Row(number)),
         }
     }

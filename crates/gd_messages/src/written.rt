@@ -29,17 +29,22 @@ fn count_hint(record: &Records<'_>) -> &'static str {
     }
 }
 
+/// What is told of a record that has not eight fields.
+fn told_of_len(spot: Spot, record: &Records<'_>) -> Result<String, AllocError> {
+    let place = spot.place()?;
+    let count = Count(record.len(), "field");
+    let hint = count_hint(record);
+    format!(in spot.text.alloc; "{place} has {count}, and 8 are wanted (7 commas){hint}")
+}
+
 /// What is told of a row that has not eight fields.
 pub(crate) fn told_of_count(spot: Spot) -> Result<Option<String>, AllocError> {
-    let alloc = spot.text.alloc;
     let Some(record) = spot.record()? else {
         return Ok(None);
     };
-    let place = spot.place()?;
-    let count = Count(record.len(), "field");
-    let hint = count_hint(&record);
-    let told = format!(in alloc; "{place} has {count}, and 8 are wanted (7 commas){hint}")?;
-    Ok(Some(told))
+    let told = told_of_len(spot, &record);
+    drop(record);
+    Ok(Some(told?))
 }
 
 /// The most bytes of a word that may have been meant for a kind.
@@ -64,26 +69,31 @@ fn meant_kind(alloc: Global, word: &[u8]) -> Result<Option<&'static str>, AllocE
     Ok(meant)
 }
 
-/// What is told of a row whose first field is no kind.
-pub(crate) fn told_of_kind(spot: Spot) -> Result<Option<String>, AllocError> {
+/// What is told of a first field that is no kind.
+fn told_of_word(spot: Spot, word: &[u8]) -> Result<String, AllocError> {
     let alloc = spot.text.alloc;
-    let Some(record) = spot.record()? else {
-        return Ok(None);
-    };
     let place = spot.place()?;
-    let word = record.field(1);
     if word.is_empty() {
-        let told = format!(in alloc;
+        return format!(in alloc;
             "{place}: the first field is empty; the kind of the row is wanted"
-        )?;
-        return Ok(Some(told));
+        );
     }
     let meant = Meant {
         name: meant_kind(alloc, word)?,
         otherwise: "",
     };
     let word = Shown(word);
-    Ok(Some(format!(in alloc; "{place}: {word} is no kind of row{meant}")?))
+    format!(in alloc; "{place}: {word} is no kind of row{meant}")
+}
+
+/// What is told of a row whose first field is no kind.
+pub(crate) fn told_of_kind(spot: Spot) -> Result<Option<String>, AllocError> {
+    let Some(record) = spot.record()? else {
+        return Ok(None);
+    };
+    let told = told_of_word(spot, record.field(1));
+    drop(record);
+    Ok(Some(told?))
 }
 
 /// What is told of a field that should be empty.
@@ -200,13 +210,24 @@ fn told_of_kinds_field(
     }
 }
 
+/// What is told of field `k` of a record, where the record is of a kind.
+fn told_of_records_field(
+    spot: Spot,
+    record: &Records<'_>,
+    k: usize,
+) -> Result<Option<String>, AllocError> {
+    match kind_of(record.field(1)) {
+        Some(kind) => Ok(Some(told_of_kinds_field(spot, record, kind, k)?)),
+        None => Ok(None),
+    }
+}
+
 /// What is told of field `k` of a row, which isn't what is wanted of it.
 pub(crate) fn told_of_field(spot: Spot, k: usize) -> Result<Option<String>, AllocError> {
     let Some(record) = spot.record()? else {
         return Ok(None);
     };
-    match kind_of(record.field(1)) {
-        Some(kind) => Ok(Some(told_of_kinds_field(spot, &record, kind, k)?)),
-        None => Ok(None),
-    }
+    let told = told_of_records_field(spot, &record, k);
+    drop(record);
+    told
 }

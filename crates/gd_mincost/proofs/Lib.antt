@@ -1,6 +1,6 @@
 pub mod Value
 pub mod Links
-pub mod Along
-pub mod Shown
+pub mod LinkWalks
+pub mod LabelPotentials
 pub mod Table
-pub mod Shows
+pub mod PotentialTests

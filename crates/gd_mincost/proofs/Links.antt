@@ -6,19 +6,19 @@ use Rattle.std.proofs.lemmas.Bool.{cases_lt}
 use Rattle.std.proofs.lemmas.List.{length_push, get_or_append_left, get_or_push}
 use Rattle.std.specs.Int.{w64}
 use borrow.Author.Differences.{ints}
-use Rattle.gd_rules.specs.Scale.{Scale, IsBounded, AtMost}
+use Rattle.gd_scale.specs.Scale.{Scale, IsBounded, AtMost}
 use Rattle.gd_network.specs.declared.arcs.Arc.{Arc}
 use Rattle.gd_network.specs.Arcs.{Net, arc_at, from_at, to_at, lower_at, upper_at}
-use Rattle.gd_network.specs.Begun.{AreSound}
+use Rattle.gd_network.specs.Beginning.{AreSound}
 use Rattle.gd_network.specs.Flow.{flow_at}
 use Rattle.gd_network.specs.Potential.{IsStill}
-use Rattle.gd_walks.specs.declared.Step.{Step}
-use Rattle.gd_walks.specs.Steps.{tail_of, head_of, room}
+use Rattle.gd_network.specs.declared.walks.Step.{Step}
+use Rattle.gd_network.specs.Steps.{tail_of, head_of, room}
 use Rattle.gd_labels.specs.Links.{AreLinks, node_at}
-use Rattle.gd_labels.specs.Found as labels
+use Rattle.gd_labels.specs.Findings as labels
 use Rattle.gd_mincost.specs.Gains.{AreGains, gain_at, gained}
 use Rattle.gd_mincost.specs.Residual.{IsLink, AreLinked, Holds, Keeps, IsWhole, step_at}
-use Rattle.gd_mincost.specs.Settled.{potential}
+use Rattle.gd_mincost.specs.Settling.{potential}
 
 module _ {V : Type 0} (s : Scale V) (n : Net) (flow : List ℤ) (gains : List V) where
   same_link : (step step' : Step) (u u' v v' : ℕ) (x x' : V) → step' ≡ step → u' ≡ u → v' ≡ v → x' ≡ x → IsLink s n flow gains step u v x → IsLink s n flow gains step' u' v' x'

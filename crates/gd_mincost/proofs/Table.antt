@@ -2,7 +2,7 @@
 use Rattle.std.proofs.Common.{◌≡◌, ℕ, ◌+◌, ◌<◌, List, [], ◌∷◌, ◌++◌, length, map, get_or, Bool, IsTrue, Result, Ok, Err, sym, ap, ◌∙◌, subst, below_more}
 use Rattle.std.specs.Prelude.{ℤ, pos, OnOk}
 use Rattle.std.proofs.lemmas.List.{length_push, length-map, get_or_append_left, get_or_push, get_or-map, map_push}
-use Rattle.gd_rules.specs.Scale.{Scale}
+use Rattle.gd_scale.specs.Scale.{Scale}
 use Rattle.gd_mincost.specs.Gains.{AreGains, gain_at}
 
 module _ {V : Type 0} (s : Scale V) where

@@ -10,15 +10,15 @@ use Rattle.std.proofs.lemmas.List.{get_or-set_other, length-set}
 use Rattle.std.proofs.lemmas.Grind.{get_or-set_at}
 use Rattle.std.proofs.Math.Nat.{suc-mul}
 use borrow.Author.Differences.{ints}
-use Rattle.gd_rules.specs.Scale.{Scale, IsLawful, IsBounded, IsRanked, repeated, multiple, total_below, AtMost, IsAbove}
-use Rattle.gd_rules.proofs.Group.{neutral_left, injective, at_most_turned, at_most_then, at_most_left, repeated_none, repeated_plus, repeated_up}
-use Rattle.gd_rules.proofs.Multiples.{multiple_add}
-use Rattle.gd_rules.proofs.Sums.{total_same}
+use Rattle.gd_scale.specs.Scale.{Scale, IsLawful, IsBounded, IsRanked, repeated, multiple, total_below, AtMost, IsAbove}
+use Rattle.gd_scale.proofs.Group.{neutral_left, injective, at_most_turned, at_most_then, at_most_left, repeated_none, repeated_plus, repeated_up}
+use Rattle.gd_scale.proofs.Multiples.{multiple_add}
+use Rattle.gd_scale.proofs.Sums.{total_same}
 use Rattle.gd_network.specs.Arcs.{Net}
 use Rattle.gd_network.specs.Flow.{flow_at, IsWithin}
-use Rattle.gd_network.specs.Begun.{AreSound}
-use Rattle.gd_walks.specs.declared.Step.{Step}
-use Rattle.gd_walks.specs.Steps.{moved, pushed, AreSteps}
+use Rattle.gd_network.specs.Beginning.{AreSound}
+use Rattle.gd_network.specs.declared.walks.Step.{Step}
+use Rattle.gd_network.specs.Steps.{moved, pushed, AreSteps}
 use Rattle.gd_mincost.specs.Gains.{AreGains, gain_at, gained, gain_along, value}
 
 module _ {V : Type 0} (s : Scale V) (l : IsLawful s) where

@@ -1,12 +1,12 @@
 -- What arcs and steps gain, and what a flow is worth.
 use Rattle.std.specs.Prelude.{◌≡◌, ℕ, ◌*◌, ◌<◌, ℤ, pos, Bool, List, [], ◌∷◌, length, get_or, cond, IsTrue}
 use Rattle.gd_rules.specs.Limits.{most_dekatherms}
-use Rattle.gd_rules.specs.Scale.{Scale, total_below, multiple}
+use Rattle.gd_scale.specs.Scale.{Scale, total_below, multiple}
 use Rattle.gd_rules.specs.Question.{Question}
 use Rattle.gd_network.specs.Arcs.{Net}
 use Rattle.gd_network.specs.Flow.{flow_at}
 use Rattle.gd_network.specs.Potential.{IsGains}
-use Rattle.gd_walks.specs.declared.Step.{Step}
+use Rattle.gd_network.specs.declared.walks.Step.{Step}
 use Rattle.gd_labels.specs.Links.{most_gain}
 
 -- x is what the arc of this number gains.

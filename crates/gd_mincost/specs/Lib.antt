@@ -1,5 +1,5 @@
-pub mod Settled
+pub mod Settling
 pub mod Gains
 pub mod Residual
-pub mod Closed
+pub mod ClosedWalks
 pub mod Stillness

@@ -1,9 +1,9 @@
 -- The steps that a flow leaves room for, as links.
 use Rattle.std.specs.Prelude.{◌≡◌, ℕ, ◌<◌, ℤ, pos, ◌<ℤ◌, false, List, length, map, get_or}
-use Rattle.gd_rules.specs.Scale.{Scale}
+use Rattle.gd_scale.specs.Scale.{Scale}
 use Rattle.gd_network.specs.Arcs.{Net}
-use Rattle.gd_walks.specs.declared.Step.{Step}
-use Rattle.gd_walks.specs.Steps.{tail_of, head_of, room}
+use Rattle.gd_network.specs.declared.walks.Step.{Step}
+use Rattle.gd_network.specs.Steps.{tail_of, head_of, room}
 use Rattle.gd_labels.specs.Links.{node_at}
 use Rattle.gd_mincost.specs.Gains.{gained}
 use Rattle.gd_mincost.specs.declared.residual.Residual.{Residual}

@@ -1,11 +1,11 @@
 -- Potentials under which no step gains.
 use Rattle.std.specs.Prelude.{ℕ, ◌<◌, ◌<ℤ◌, ℤ, pos, Bool, List, length, IsTrue}
-use Rattle.gd_rules.specs.Scale.{Scale, AtMost}
+use Rattle.gd_scale.specs.Scale.{Scale, AtMost}
 use Rattle.gd_rules.specs.Question.{Question}
 use Rattle.gd_network.specs.Arcs.{Net, from_at, to_at, lower_at, upper_at}
 use Rattle.gd_network.specs.Flow.{flow_at}
 use Rattle.gd_network.specs.Potential.{IsGains, IsStill}
-use Rattle.gd_mincost.specs.Settled.{potential, most_potential}
+use Rattle.gd_mincost.specs.Settling.{potential, most_potential}
 
 -- No potential is too large.
 abbrev pub AreSmall : {V : Type 0} → Scale V → (ℤ → V → Bool) → List V → Type 0

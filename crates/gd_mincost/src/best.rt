@@ -1,11 +1,11 @@
 //! A feasible flow made best.
 
 ghost use Rattle.std.specs.Prelude.{◌≡◌, ◌+◌, length, map, IfOk, OnOk, MatchOption};
-ghost use Rattle.gd_rules.specs.Scale.{IsAbove};
-ghost use Rattle.gd_mincost.specs.Settled.{IsSettled, worth};
+ghost use Rattle.gd_scale.specs.Scale.{IsAbove};
+ghost use Rattle.gd_mincost.specs.Settling.{IsSettled, worth};
 ghost use Rattle.gd_mincost.specs.Gains.{AreGains, value};
 ghost use Rattle.gd_flow.specs.Feasible.{IsFeasible};
-ghost use Rattle.gd_mincost.specs.Closed.{AreShown};
+ghost use Rattle.gd_mincost.specs.ClosedWalks.{AreShown};
 
 use crate::found::push_found;
 use crate::gains::gains;
@@ -15,9 +15,8 @@ use crate::walk::push_closed;
 use gd_cost::{ByClass, Cost};
 use gd_flow::Feasible;
 use gd_labels::{Found, potentials};
-use gd_network::{Flow, Network};
+use gd_network::{Flow, Network, within_is_near};
 use gd_shortest::Walks;
-use gd_walks::within_is_near;
 use std::alloc::{AllocError, Global};
 use std::marker::Model;
 
@@ -32,7 +31,7 @@ pub struct Best<'q, C: Cost> {
 }
 
 impl<'q, C: Cost> Model for Best<'q, C> {
-    ghost use Rattle.gd_mincost.specs.Settled.{Settled};
+    ghost use Rattle.gd_mincost.specs.Settling.{Settled};
 
     ghost Value = { Settled C };
 

@@ -1,17 +1,16 @@
 //! Walks that were found, which gain if a look at each of their steps shows it.
 
 ghost use Rattle.std.specs.Prelude.{◌≡◌, ◌<◌, ◌^◌, pos, true, false, length, map, IfOk, OnOk, IfSome, IsTrue};
-ghost use Rattle.gd_rules.specs.Scale.{IsAbove};
-ghost use Rattle.gd_walks.specs.Steps.{AreSteps, Follows, Once};
+ghost use Rattle.gd_scale.specs.Scale.{IsAbove};
+ghost use Rattle.gd_network.specs.Steps.{AreSteps, Follows, Once};
 ghost use Rattle.gd_flow.specs.Feasible.{IsFeasible};
 ghost use Rattle.gd_mincost.specs.Gains.{AreGains, gained, gain_along, value};
-ghost use Rattle.gd_mincost.specs.Closed.{IsGainingWalk, IsClosed};
+ghost use Rattle.gd_mincost.specs.ClosedWalks.{IsGainingWalk, IsClosed};
 
 use crate::walk::GREATEST;
 use gd_cost::Cost;
-use gd_network::Network;
+use gd_network::{Network, Step, least_room, near_fits, push, within_is_near};
 use gd_shortest::Walks;
-use gd_walks::{Step, least_room, near_fits, push, within_is_near};
 use std::alloc::{AllocError, Global};
 
 /// The greatest size of a number in what steps gain together, to which one more step's can be added.

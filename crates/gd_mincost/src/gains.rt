@@ -3,7 +3,7 @@
 ghost use Rattle.std.specs.Prelude.{ℕ, ◌<◌, pos, length, map, IfOk, IsTrue};
 ghost use Rattle.gd_labels.specs.Links.{most_gain};
 ghost use Rattle.gd_mincost.specs.Gains.{IsGainAt, AreGains, gain_at};
-ghost use Rattle.gd_mincost.specs.Settled.{worth};
+ghost use Rattle.gd_mincost.specs.Settling.{worth};
 
 use gd_cost::ByClass;
 use gd_network::Network;

@@ -1,14 +1,13 @@
 //! The links along which a flow can change.
 
 ghost use Rattle.std.specs.Prelude.{◌≡◌, ◌<◌, ◌++◌, ◌∷◌, [], pos, ◌≤ℤ◌, ◌<ℤ◌, length, map, IfOk, OnOk};
-ghost use Rattle.gd_walks.specs.Steps.{room, IsNear};
+ghost use Rattle.gd_network.specs.Steps.{room, IsNear};
 ghost use Rattle.gd_mincost.specs.Gains.{AreGains};
 ghost use Rattle.gd_mincost.specs.Residual.{IsSound, IsWhole, Holds, Keeps};
 
 use gd_cost::Cost;
 use gd_labels::Links;
-use gd_network::Network;
-use gd_walks::Step;
+use gd_network::{Network, Step};
 use std::alloc::{AllocError, Global};
 
 /// The steps that a flow leaves room for, as links.

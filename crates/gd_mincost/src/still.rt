@@ -1,8 +1,8 @@
 //! Whether potentials show that a flow is best.
 
 ghost use Rattle.std.specs.Prelude.{◌≡◌, ◌+◌, ◌<◌, ◌^◌, pos, true, false, length, map, IsTrue};
-ghost use Rattle.gd_rules.specs.Scale.{AtMost};
-ghost use Rattle.gd_mincost.specs.Settled.{potential, worth};
+ghost use Rattle.gd_scale.specs.Scale.{AtMost};
+ghost use Rattle.gd_mincost.specs.Settling.{potential, worth};
 ghost use Rattle.gd_mincost.specs.Stillness.{AreSmall, IsStillAlong, IsStillBack, ShowsBest};
 
 use crate::MAX_POTENTIAL_WORD;

@@ -1,18 +1,17 @@
 //! Closed walks that gain, and pushes along them.
 
 ghost use Rattle.std.specs.Prelude.{◌≡◌, ℕ, ◌<◌, length, map, IfOk, OnOk};
-ghost use Rattle.gd_rules.specs.Scale.{IsAbove};
+ghost use Rattle.gd_scale.specs.Scale.{IsAbove};
 ghost use Rattle.gd_labels.specs.Links.{node_at};
-ghost use Rattle.gd_labels.specs.Found.{IsGaining};
+ghost use Rattle.gd_labels.specs.Findings.{IsGaining};
 ghost use Rattle.gd_mincost.specs.Gains.{value};
 ghost use Rattle.gd_flow.specs.Feasible.{IsFeasible};
 ghost use Rattle.gd_mincost.specs.Residual.{IsSound};
-ghost use Rattle.gd_mincost.specs.Closed.{steps_along};
+ghost use Rattle.gd_mincost.specs.ClosedWalks.{steps_along};
 
 use crate::residual::Residual;
 use gd_cost::Cost;
-use gd_network::Network;
-use gd_walks::{Step, least_room, near_fits, push, within_is_near};
+use gd_network::{Network, Step, least_room, near_fits, push, within_is_near};
 use std::alloc::{AllocError, Global};
 
 /// More than any arc carries.

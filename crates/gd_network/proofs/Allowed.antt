@@ -4,7 +4,7 @@ use Rattle.std.specs.Prelude.{ℤ, pos, ◌≤ℤ◌, ◌==◌, ◌⊎◌}
 use Rattle.std.proofs.lemmas.Bool.{cases_lt}
 use borrow.Author.Differences.{ints}
 use borrow.Author.Tests.{eqb-true}
-use Rattle.gd_rules.specs.Sum.{sum_int}
+use Rattle.gd_scale.specs.Sum.{sum_int}
 use Rattle.gd_rules.specs.Question.{Element, Question, element, line}
 use Rattle.gd_rules.specs.Question.Element.{Segment, Receipt, Delivery, Pool}
 use Rattle.gd_rules.specs.Schedule.{quantity, load, Holds, IsAllowed}
@@ -13,9 +13,9 @@ use Rattle.gd_rules.specs.Tree.{HasLines}
 use Rattle.gd_rules.proofs.Duality.{load_up}
 use Rattle.gd_network.specs.Arcs.{Net, lower_at, upper_at, tenth_arc, most_of, most_part, least_part}
 use Rattle.gd_question.specs.Nodes.{AllBring}
-use Rattle.gd_network.proofs.Wired.{IsWired}
+use Rattle.gd_network.proofs.Wiring.{IsWired}
 use Rattle.gd_network.specs.Flow.{flow_at, IsCirculation, IsWithin, IsFlowOf, IsScheduleOf, part_of}
-use Rattle.gd_rules.proofs.IntSums.{int_at_most, all_pos}
+use Rattle.gd_scale.proofs.IntSums.{int_at_most, all_pos}
 use Rattle.gd_network.proofs.Tens.{most_ten, least_ten, ends_grow, last_end}
 use Rattle.gd_network.proofs.Balance.{loads_are}
 

@@ -1,16 +1,16 @@
 -- The flow of a schedule balances, and a flow that balances carries through each element the load of its schedule.
 use Rattle.std.proofs.Common.{◌≡◌, ℕ, ◌<◌, List, length, refl, sym, ap, ◌∙◌}
 use Rattle.std.specs.Prelude.{ℤ, pos}
-use Rattle.gd_rules.specs.Sum.{sum_int}
+use Rattle.gd_scale.specs.Sum.{sum_int}
 use Rattle.gd_rules.specs.Question.{Question, line}
 use Rattle.gd_rules.specs.Schedule.{quantity, load}
 use Rattle.gd_rules.specs.Tree.{HasLines}
-use Rattle.gd_rules.proofs.IntSums.{int_same, all_pos}
+use Rattle.gd_scale.proofs.IntSums.{int_same, all_pos}
 use Rattle.gd_question.specs.Nodes.{AllBring}
 use Rattle.gd_schedule.proofs.Balance.{by_parts_same, loads_balance, balanced_are_loads}
 use Rattle.gd_network.specs.Arcs.{Net, tenth_arc}
 use Rattle.gd_network.specs.Flow.{flow_at, IsCirculation, IsFlowOf, IsScheduleOf, part_of}
-use Rattle.gd_network.proofs.Wired.{IsWired}
+use Rattle.gd_network.proofs.Wiring.{IsWired}
 use Rattle.gd_network.proofs.Tens.{part_ten}
 use Rattle.gd_network.proofs.Parts.{net_parts}
 

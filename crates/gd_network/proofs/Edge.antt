@@ -2,16 +2,16 @@
 use Rattle.std.proofs.Common.{◌≡◌, ℕ, suc, zero, ◌<◌, List, length, refl, ap, ◌∙◌, subst, arith, Bool, true, false, not, ◌&&◌, inl, inr}
 use Rattle.std.specs.Prelude.{ℤ, pos, ◌+ℤ◌, ◌-ℤ◌, neg_ℤ, ◌≤ℤ◌, ◌<ℤ◌, if◌then◌else◌, ◌⊎◌}
 use borrow.Author.Differences.{ints}
-use Rattle.gd_rules.specs.Sum.{sum_nat, sum_int}
+use Rattle.gd_scale.specs.Sum.{sum_nat, sum_int}
 use Rattle.gd_rules.specs.Question.{Element, Question, element, line}
 use Rattle.gd_rules.specs.Question.Element.{Segment, Receipt, Delivery, Pool}
 use Rattle.gd_rules.specs.Tree.{HasLines, IsLine, CanSend, CanTake}
 use Rattle.gd_rules.specs.Cut.{Side, has_place, has_end, way_out, must_leave, may_enter, can_leave, excess, IsCut}
 use Rattle.gd_network.specs.Arcs.{Net, from_at, to_at, lower_at, upper_at, most_of}
 use Rattle.gd_question.specs.Nodes.{start, stop, start_of, stop_of, end_node, carried}
-use Rattle.gd_network.proofs.Wired.{IsWired}
+use Rattle.gd_network.proofs.Wiring.{IsWired}
 use Rattle.gd_network.specs.Flow.{flow_at, IsCirculation, bound_of, arc_excess, IsSideOf, ElementAgrees, IsEdge, IsShort}
-use Rattle.gd_rules.proofs.IntSums.{int_same, int_plus, int_less, all_pos}
+use Rattle.gd_scale.proofs.IntSums.{int_same, int_plus, int_less, all_pos}
 use Rattle.gd_network.proofs.Parts.{excess_parts}
 
 -- An arc that leads out counts its capacity, and one that leads in its lower bound 0.

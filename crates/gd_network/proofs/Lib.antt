@@ -1,4 +1,4 @@
-pub mod Wired
+pub mod Wiring
 pub mod Tens
 pub mod Sums
 pub mod Parts
@@ -6,12 +6,15 @@ pub mod Edge
 pub mod Balance
 pub mod Allowed
 pub mod Prices
-pub mod Made
-mod Rows
+pub mod Networks
+mod Examples
 pub mod Marks
-pub mod Built
-pub mod Summed
-pub mod Brought
-pub mod Numbered
-pub mod Carried
-pub mod Linked
+pub mod Building
+pub mod LineSums
+pub mod Clamping
+pub mod NodeNumbers
+pub mod LineFlows
+pub mod LinkLists
+pub mod Pushes
+pub mod Mending
+pub mod StepRooms

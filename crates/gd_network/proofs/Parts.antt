@@ -2,17 +2,17 @@
 use Rattle.std.proofs.Common.{◌≡◌, ℕ, suc, zero, ◌<◌, ◌≤◌, List, length, refl, ap, ◌∙◌, arith, Bool, true, false}
 use Rattle.std.specs.Prelude.{ℤ, pos, ◌+ℤ◌}
 use borrow.Author.Differences.{ints}
-use Rattle.gd_rules.specs.Sum.{sum_int}
-use Rattle.gd_rules.specs.Words.{whole}
-use Rattle.gd_rules.proofs.Words.{whole_lawful}
+use Rattle.gd_scale.specs.Sum.{sum_int}
+use Rattle.gd_scale.specs.Words.{whole}
+use Rattle.gd_scale.proofs.Words.{whole_lawful}
 use Rattle.gd_rules.specs.Question.{Line, Question, element, line}
 use Rattle.gd_network.specs.Arcs.{Net, from_at, to_at, lower_at, upper_at, most_of, most_part, least_part, tenth_arc}
 use Rattle.gd_question.specs.Nodes.{start, stop, end_node, carried}
 use Rattle.gd_schedule.proofs.Balance.{by_parts}
-use Rattle.gd_network.proofs.Wired.{IsWired}
+use Rattle.gd_network.proofs.Wiring.{IsWired}
 use Rattle.gd_network.specs.Flow.{flow_at, net, bound_of, arc_excess}
 use Rattle.gd_network.proofs.Sums.{total_parts}
-use Rattle.gd_rules.proofs.IntSums.{int_same, all_pos}
+use Rattle.gd_scale.proofs.IntSums.{int_same, all_pos}
 use Rattle.gd_network.proofs.Tens.{most_ten, least_ten}
 
 carried_more : (b c : Bool) (x y : ℤ) → carried b c x +ℤ carried b c y ≡ carried b c (x +ℤ y)

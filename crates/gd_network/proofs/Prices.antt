@@ -4,8 +4,8 @@ use Rattle.std.specs.Prelude.{ℤ, pos, ◌+ℤ◌, ◌≤ℤ◌, ◌<ℤ◌, �
 use Rattle.std.proofs.lemmas.Bool.{cases_lt, cases_eq}
 use Rattle.std.proofs.lemmas.Int.{by_lt_z}
 use borrow.Author.Differences.{ints}
-use Rattle.gd_rules.specs.Sum.{sum_int}
-use Rattle.gd_rules.specs.Scale.{Scale, IsLawful, multiple, AtMost, IsAbove, less}
+use Rattle.gd_scale.specs.Sum.{sum_int}
+use Rattle.gd_scale.specs.Scale.{Scale, IsLawful, multiple, AtMost, IsAbove, less}
 use Rattle.gd_rules.specs.Units.{NeverRises}
 use Rattle.gd_rules.specs.Question.{Element, Line, Question, element, line, crossing}
 use Rattle.gd_rules.specs.Question.Element.{Segment, Receipt, Delivery, Pool}
@@ -13,15 +13,15 @@ use Rattle.gd_rules.specs.Schedule.{quantity, load}
 use Rattle.gd_rules.specs.Spread.{tenth_end, tenth_of}
 use Rattle.gd_rules.specs.Priced.{price, crossed, worth_of, margin, Clears, IsPriced}
 use Rattle.gd_rules.specs.Tree.{HasLines}
-use Rattle.gd_rules.proofs.Group.{injective, minus_none, at_most_itself, at_most_left, at_most_plus, at_most_then, at_most_back}
-use Rattle.gd_rules.proofs.Sums.{total_same}
+use Rattle.gd_scale.proofs.Group.{injective, minus_none, at_most_itself, at_most_left, at_most_plus, at_most_then, at_most_back}
+use Rattle.gd_scale.proofs.Sums.{total_same}
 use Rattle.gd_rules.proofs.LiesIn.{lies_in}
 use Rattle.gd_network.specs.Arcs.{Net, from_at, tenth_arc, most_of, most_part, least_part}
 use Rattle.gd_question.specs.Nodes.{AllBring, start, stop, end_node}
-use Rattle.gd_network.proofs.Wired.{IsWired}
+use Rattle.gd_network.proofs.Wiring.{IsWired}
 use Rattle.gd_network.specs.Flow.{flow_at, IsCirculation, IsWithin, IsScheduleOf}
 use Rattle.gd_network.specs.Potential.{IsGains, IsStill, ArePrices}
-use Rattle.gd_rules.proofs.IntSums.{int_at_most, all_pos}
+use Rattle.gd_scale.proofs.IntSums.{int_at_most, all_pos}
 use Rattle.gd_network.proofs.Tens.{most_sum, ends_grow, first_end, last_end}
 use Rattle.gd_schedule.proofs.Telescope.{less_back, less_chain, less_turned, line_rise}
 use Rattle.gd_network.proofs.Balance.{loads_are}

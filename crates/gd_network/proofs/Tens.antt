@@ -3,7 +3,7 @@ use Rattle.std.proofs.Common.{◌≡◌, ℕ, suc, zero, ◌+◌, ◌*◌, ◌<�
 use Rattle.std.specs.Prelude.{◌==◌}
 use Rattle.std.proofs.Math.Nat.{mul-le-mul_left}
 use borrow.Author.Tests.{eqb-true}
-use Rattle.gd_rules.specs.Sum.{sum_nat}
+use Rattle.gd_scale.specs.Sum.{sum_nat}
 use Rattle.gd_rules.specs.Spread.{tenth_end}
 use Rattle.gd_network.specs.Arcs.{most_part, least_part}
 use Rattle.gd_network.specs.Flow.{part_of}

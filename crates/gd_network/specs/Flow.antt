@@ -1,6 +1,6 @@
 -- What flows over a network's arcs.
 use Rattle.std.specs.Prelude.{◌≡◌, ℕ, ◌+◌, ◌-◌, ◌<◌, ℤ, pos, ◌≤ℤ◌, neg_ℤ, Bool, true, false, List, length, get_or, min, max, ◌==◌, ◌≤◌, take, drop, replicate, ◌++◌, if◌then◌else◌, ◌<ℤ◌, ◌⊎◌}
-use Rattle.gd_rules.specs.Sum.{sum_int}
+use Rattle.gd_scale.specs.Sum.{sum_int}
 use Rattle.gd_rules.specs.Question.{Element, Question, element, line}
 use Rattle.gd_rules.specs.Question.Element.{Segment, Receipt, Delivery, Pool}
 use Rattle.gd_rules.specs.Schedule.{quantity, load}

@@ -1,9 +1,9 @@
 -- What the fields of a network stand for.
 use Rattle.std.specs.Prelude.{◌+◌, length}
 use Rattle.gd_network.specs.Arcs.{arc_count}
-use Rattle.gd_network.specs.Begun.{Laid, IsFirst}
+use Rattle.gd_network.specs.Beginning.{Laid, IsFirst}
 use Rattle.gd_network.specs.Flow.{IsCirculation}
-use Rattle.gd_network.specs.Holds.{FirstArcs}
+use Rattle.gd_network.specs.Entries.{FirstArcs}
 use Rattle.gd_network.specs.Links.{AreLinks, lists}
 use Rattle.gd_network.specs.declared.network.Network.TheInside.{Inside}
 

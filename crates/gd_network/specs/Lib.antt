@@ -1,7 +1,8 @@
 pub mod Arcs
 pub mod Flow
 pub mod Potential
-pub mod Holds
-pub mod Begun
+pub mod Entries
+pub mod Beginning
 pub mod Inside
 pub mod Links
+pub mod Steps

@@ -7,7 +7,7 @@ ghost use Rattle.gd_rules.specs.Spread.{tenth_end};
 ghost use Rattle.gd_system.specs.Pipeline.{element_of};
 ghost use Rattle.gd_network.specs.Arcs.{arc_count, most_of, most_part, least_part, tenth_arc, element_arc, line_arc};
 ghost use Rattle.gd_question.specs.Nodes.{start_of, stop_of};
-ghost use Rattle.gd_network.specs.Holds.{FirstArcs};
+ghost use Rattle.gd_network.specs.Entries.{FirstArcs};
 
 use gd_question::{Element, Part, Question};
 use std::alloc::{AllocError, Global};

@@ -4,11 +4,11 @@ ghost use Rattle.std.specs.Prelude.{◌≡◌, ℕ, ◌+◌, ◌*◌, ◌<◌, �
 ghost use Rattle.gd_rules.specs.Limits.{most_dekatherms, most_elements, most_lines};
 ghost use Rattle.gd_rules.specs.Question.{line as asked_line};
 ghost use Rattle.gd_rules.specs.Schedule.{quantity};
-ghost use Rattle.gd_rules.specs.Sum.{sum_int};
+ghost use Rattle.gd_scale.specs.Sum.{sum_int};
 ghost use Rattle.gd_network.specs.Arcs.{arc_count, tenth_arc, IsNetwork};
 ghost use Rattle.gd_network.specs.Flow.{flow_at, part_of, IsWithin, IsScheduleOf};
-ghost use Rattle.gd_network.specs.Begun.{clamped, brought};
-ghost use Rattle.gd_network.specs.Holds.{FirstFlows};
+ghost use Rattle.gd_network.specs.Beginning.{clamped, brought};
+ghost use Rattle.gd_network.specs.Entries.{FirstFlows};
 
 use crate::Arc;
 use crate::arcs::tenth_end;

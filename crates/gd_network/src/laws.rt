@@ -2,17 +2,18 @@
 //! statement.
 
 ghost use Rattle.std.specs.Prelude.{◌≡◌, ◌<◌, ◌≤◌, ℕ, ℤ, Bool, false, List, length, get_or};
-ghost use Rattle.gd_rules.specs.Sum.{sum_nat};
-ghost use Rattle.gd_rules.specs.Scale.{multiple, total_below, less};
+ghost use Rattle.gd_scale.specs.Sum.{sum_nat};
+ghost use Rattle.gd_scale.specs.Scale.{multiple, total_below, less};
 ghost use Rattle.gd_rules.specs.Question.{Question, element, line, crossing};
 ghost use Rattle.gd_rules.specs.Schedule.{IsAllowed};
 ghost use Rattle.gd_rules.specs.Spread.{IsBest};
 ghost use Rattle.gd_rules.specs.Tree.{HasLines, IsLine};
 ghost use Rattle.gd_rules.specs.Priced.{IsPriced};
-ghost use Rattle.gd_rules.specs.Words.{whole, tariff, tariff_unit};
+ghost use Rattle.gd_scale.specs.Words.{whole};
+ghost use Rattle.gd_rules.specs.Tariff.{tariff, tariff_unit};
 ghost use Rattle.gd_rules.specs.Cut.{Side, IsCut};
 ghost use Rattle.gd_system.specs.Pipeline.{Pipeline};
-ghost use Rattle.gd_question.specs.Placed.{IsPlaced};
+ghost use Rattle.gd_question.specs.Placing.{IsPlaced};
 ghost use Rattle.gd_network.specs.Arcs.{Net, IsNetwork, most_part, least_part};
 ghost use Rattle.gd_question.specs.Nodes.{AllBring, start, stop, end_node};
 ghost use Rattle.gd_network.specs.Flow.{part_of, IsCirculation, IsWithin, IsFlowOf, IsScheduleOf, IsSideOf, IsEdge, IsShort, IsOrdered, side_of};

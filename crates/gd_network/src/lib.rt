@@ -1,4 +1,5 @@
-//! A question as a network of arcs, whose circulations within bounds are its allowed schedules.
+//! A question as a network of arcs, whose circulations within bounds are its allowed schedules; steps along its arcs and back,
+//! how much they can carry, and what a push along a walk leaves.
 #![tactic(auto)]
 
 mod arcs;
@@ -6,6 +7,8 @@ mod flow;
 mod laws;
 mod links;
 mod network;
+mod rooms;
+mod walks;
 
 pub use arcs::Arc;
 pub use flow::Flow;
@@ -14,3 +17,5 @@ pub use laws::{
     schedules_flow, ten_sums,
 };
 pub use network::{Network, Tenth};
+pub use rooms::{least_room, near_fits, within_is_near};
+pub use walks::{Step, push};

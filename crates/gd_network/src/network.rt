@@ -3,12 +3,12 @@
 ghost use Rattle.std.specs.Prelude.{◌≡◌, ℕ, ◌+◌, ◌<◌, ◌≤◌, [], length, IfOk, MatchOption};
 ghost use Rattle.gd_rules.specs.Schedule.{IsAllowed, load};
 ghost use Rattle.gd_question.specs.Known.{IsKnown};
-ghost use Rattle.gd_question.specs.Placed.{IsPlaced};
+ghost use Rattle.gd_question.specs.Placing.{IsPlaced};
 ghost use Rattle.gd_network.specs.Arcs.{IsNetwork, arc_at, tenth_arc};
 ghost use Rattle.gd_question.specs.Nodes.{AllBring, start, stop};
 ghost use Rattle.gd_network.specs.Flow.{flow_at, IsCirculation, IsWithin, IsFlowOf, IsScheduleOf};
 ghost use Rattle.gd_network.specs.Links.{links_of};
-ghost use Rattle.gd_network.specs.Begun.{brought, AreSound, IsFirst};
+ghost use Rattle.gd_network.specs.Beginning.{brought, AreSound, IsFirst};
 
 use crate::arcs::arcs_of;
 use crate::flow::{bring, flow_of, schedule_of};
@@ -44,7 +44,7 @@ pub struct Network<'q> {
 }
 
 impl<'q> Model for Network<'q> {
-    ghost use Rattle.gd_network.specs.Begun.{Laid};
+    ghost use Rattle.gd_network.specs.Beginning.{Laid};
 
     ghost Value = { Laid };
 

@@ -3,8 +3,7 @@ use Rattle.std.specs.Prelude.{◌≡◌, ◌≢◌, ℕ, ◌-◌, ◌<◌, ◌�
 use Rattle.gd_office_part.specs.declared.kept.TheConstants.{MAX_SESSIONS}
 use Rattle.gd_office_part.specs.declared.session.OfficeFault.{OfficeFault}
 use Rattle.gd_office_part.specs.declared.session.OfficeFault.TheVariants as session
-use Rattle.gd_office_part.specs.declared.session.Session.{Session}
-use Rattle.gd_office_part.specs.declared.session.Slot.{Slot}
+use Rattle.gd_office_part.specs.Seen.{Session, Slot}
 use Rattle.gd_office.specs.declared.fault.OpenFault.{OpenFault}
 use Rattle.gd_office.specs.declared.fault.OpenFault.TheVariants as opening
 use Rattle.gd_office.specs.declared.fault.CloseFault.{CloseFault}

@@ -1,4 +1,4 @@
 pub mod Naming
 pub mod Slots
 pub mod Faults
-pub mod Reconciled
+pub mod Reconciling

@@ -1,11 +1,17 @@
 -- The slots of an office.
 use Rattle.std.specs.Prelude.{◌≡◌, ℕ, ◌+◌, ◌-◌, ◌==◌, List, Option, Some, None, slice_get, All, if◌then◌else◌}
-use Rattle.gd_office_part.specs.declared.session.Session.{Session}
-use Rattle.gd_office_part.specs.declared.session.Slot.{Slot}
+use Rattle.gd_book.specs.Kept.{Kept}
+use Rattle.gd_machine.specs.Day.{Day}
+use Rattle.gd_office_part.specs.Days.{IsDayOf}
+use Rattle.gd_office_part.specs.Seen.{Session, Slot}
 
 -- Slots count from 1: each has the number of its place.
 abbrev pub AreNumbered : List Slot → Type 0
 AreNumbered slots = (i : ℕ) (slot : Slot) → slice_get slots i ≡ Some slot → slot.number ≡ i + 1
+
+-- The opening values of these books, which are put into slots in their order.
+abbrev pub AreDaysOf : List Day → List Kept → Type 0
+AreDaysOf days books = (i : ℕ) (book : Kept) → slice_get books i ≡ Some book → IsDayOf days (i + 1) book.day
 
 -- The slot of a number, if there is one.
 abbrev pub slot_of : List Slot → ℕ → Option Slot

@@ -4,30 +4,31 @@ ghost use Rattle.std.specs.Prelude.{◌≡◌, ◌≢◌, ◌+◌, ◌<◌, ◌�
 ghost use Rattle.std.specs.Option.{MatchOption};
 ghost use Rattle.gd_office_part.specs.Closing.{total_of};
 ghost use Rattle.gd_office_part.specs.Counting.{none};
+ghost use Rattle.gd_office_part.specs.Days.{IsDayOf};
 ghost use Rattle.gd_office.specs.declared.fault.TheConstants.{MAX_SLOTS};
 ghost use Rattle.gd_office.specs.Naming as naming;
-ghost use Rattle.gd_office.specs.Slots.{AreNumbered, AreOf, slot_of};
+ghost use Rattle.gd_office.specs.Slots.{AreDaysOf, AreNumbered, AreOf, slot_of};
 ghost use Rattle.gd_office.specs.Faults.{ExplainsOpen, ExplainsSession, ExplainsClose};
 
 use crate::apart::are_apart;
 use crate::fault::{CloseFault, MAX_SLOTS, OpenFault};
 use gd_board::Board;
 use gd_book::Book;
-use gd_office_part::{OfficeFault, Session, Slot};
+use gd_office_part::{Days, OfficeFault, Session, Slot};
 use gd_units::Name;
 use std::alloc::Global;
 use std::sync::Wait;
 
 /// Books under locks, in slots that count from 1.
 #[derive(Drop)]
-pub struct Office {
-    slots: Vec<Slot>,
+pub struct Office<J: Days> {
+    slots: Vec<Slot<J>>,
     ghost few: { len_of slots.items ≤ MAX_SLOTS },
     ghost numbered: { AreNumbered slots.items },
 }
 
 /// Puts a slot last, in room that is there.
-fn put(slots: &mut Vec<Slot>, slot: Slot)
+fn put<J: Days>(slots: &mut Vec<Slot<J>>, slot: Slot<J>)
     requires { vec_len slots.old < vec_capacity slots.old }
     ensures items { slots.new.items ≡ slots.old.items ++ slot ∷ [] }
     ensures capacity { vec_capacity slots.old ≤ vec_capacity slots.new }
@@ -36,10 +37,11 @@ fn put(slots: &mut Vec<Slot>, slot: Slot)
 }
 
 /// Puts a book into the next slot, in room that is there.
-fn put_next(alloc: Global, slots: &mut Vec<Slot>, book: Book)
+fn put_next<J: Days>(alloc: Global, slots: &mut Vec<Slot<J>>, book: Book)
     requires room { vec_len slots.old < vec_capacity slots.old }
     requires few { vec_len slots.old < MAX_SLOTS }
     requires numbered { AreNumbered slots.old.items }
+    requires day { IsDayOf J.days (vec_len slots.old + 1) book.day }
     ensures len { vec_len slots.new ≡ vec_len slots.old + 1 }
     ensures capacity { vec_capacity slots.old ≤ vec_capacity slots.new }
     ensures numbered { AreNumbered slots.new.items }
@@ -49,10 +51,11 @@ fn put_next(alloc: Global, slots: &mut Vec<Slot>, book: Book)
 }
 
 /// Puts each book into a slot, in room that is there.
-fn slots_of(alloc: Global, room: Vec<Slot>, books: Vec<Book>) -> Vec<Slot>
+fn slots_of<J: Days>(alloc: Global, room: Vec<Slot<J>>, books: Vec<Book>) -> Vec<Slot<J>>
     requires few { vec_len books ≤ MAX_SLOTS }
     requires empty { room.items ≡ [] }
     requires room { vec_len books ≤ vec_capacity room }
+    requires days { AreDaysOf J.days books.items }
     ensures len { vec_len result ≡ vec_len books }
     ensures numbered { AreNumbered result.items }
 {
@@ -64,7 +67,7 @@ fn slots_of(alloc: Global, room: Vec<Slot>, books: Vec<Book>) -> Vec<Slot>
 }
 
 /// The place of the first session that is not of the slot of this number, if there is one.
-fn first_other(slot: u32, sessions: &[Session<'_>]) -> Option<usize>
+fn first_other<J: Days>(slot: u32, sessions: &[Session<'_, J>]) -> Option<usize>
     ensures { MatchOption result (AreOf slot sessions.now)
         (λ at. IsSomeAnd (slice_get sessions.now at) (λ other. other.number ≢ slot)
         × AreOf slot (take at sessions.now)) }
@@ -77,14 +80,16 @@ fn first_other(slot: u32, sessions: &[Session<'_>]) -> Option<usize>
     None
 }
 
-impl Office {
-    /// An office of these books, in their order, with no session. Nothing is posted on a board.
+impl<J: Days> Office<J> {
+    /// An office of these books, in their order, with no session. Nothing is posted on a board. What is known of their opening
+    /// values stays known of the slots.
     ///
     /// # Errors
     ///
     /// In this order: `TooMany` for more than 64 books, `Duplicate` where two have one name, and `OutOfMemory`. The books are
     /// handed back.
-    pub fn new(alloc: Global, books: Vec<Book>) -> Result<Office, (OpenFault, Vec<Book>)>
+    pub fn new(alloc: Global, books: Vec<Book>) -> Result<Office<J>, (OpenFault, Vec<Book>)>
+        requires { AreDaysOf J.days books.items }
         ensures few { OnOk result (len_of books.items ≤ MAX_SLOTS) }
         ensures apart { OnOk result (naming.are_apart books.items ≡ true) }
         ensures slots { IfOk result (λ office. len_of office.slots.items ≡ len_of books.items) }
@@ -106,7 +111,7 @@ impl Office {
     }
 
     /// The slots, of which the first has the number 1.
-    pub fn slots(&self) -> &[Slot]
+    pub fn slots(&self) -> &[Slot<J>]
         ensures slots { result.now ≡ self.now.slots.items }
         ensures numbered { AreNumbered result.now }
     {
@@ -114,7 +119,7 @@ impl Office {
     }
 
     /// The slot of a number, if there is one.
-    pub fn slot(&self, slot: u32) -> Option<&Slot>
+    pub fn slot(&self, slot: u32) -> Option<&Slot<J>>
         ensures is { MatchOption result (slot_of self.now.slots.items slot ≡ None)
             (λ found. slot_of self.now.slots.items slot ≡ Some found.now) }
         ensures number { IfSome result (λ found. found.now.number ≡ slot) }
@@ -146,7 +151,7 @@ impl Office {
         rt: &R,
         slot: u32,
         party: Name,
-    ) -> Result<Session<'_>, OfficeFault>
+    ) -> Result<Session<'_, J>, OfficeFault>
         ensures there { OnOk result (slot_of self.now.slots.items slot ≢ None) }
         ensures slot { IfOk result (λ session. session.number ≡ slot) }
         ensures party { IfOk result (λ session. session.party ≡ party) }
@@ -168,12 +173,12 @@ impl Office {
 /// In this order: `UnknownSlot`, `WrongSlot` with the place from 0 of the first session of another slot, and `Missing` with
 /// how many of the open sessions are not handed in; there 0 stands for sums that differ from what the book gained. The
 /// sessions are handed back.
-pub fn close<'o, R: Wait>(
+pub fn close<'o, R: Wait, J: Days>(
     rt: &R,
-    office: &'o Office,
+    office: &'o Office<J>,
     slot: u32,
-    sessions: Vec<Session<'o>>,
-) -> Result<(u64, u64), (CloseFault, Vec<Session<'o>>)>
+    sessions: Vec<Session<'o, J>>,
+) -> Result<(u64, u64), (CloseFault, Vec<Session<'o, J>>)>
     ensures there { OnOk result (slot_of office.now.slots.items slot ≢ None) }
     ensures slot { OnOk result (AreOf slot sessions.entry.items) }
     ensures sums { IfOk result (λ sums. (sums.0 ≡ (total_of sessions.entry.items).nominations)

@@ -3,13 +3,13 @@
 ghost use Rattle.std.specs.Prelude.{◌≡◌, ◌≢◌, Some, None, length as len_of, IfOk, IfErr, OnOk};
 ghost use Rattle.gd_machine.specs.Machine.{IsLegal};
 ghost use Rattle.gd_reconcile.specs.Fitting.{lists_of, Fit};
-ghost use Rattle.gd_reconcile.specs.Explained.{Explains};
+ghost use Rattle.gd_reconcile.specs.Explaining.{Explains};
 ghost use Rattle.gd_office.specs.Slots.{slot_of};
-ghost use Rattle.gd_office.specs.Reconciled.{FitAsMany, ExplainsMisfit, ExplainsReconcile, reconcile_fault_name};
+ghost use Rattle.gd_office.specs.Reconciling.{FitAsMany, ExplainsMisfit, ExplainsReconcile, reconcile_fault_name};
 
 use crate::office::Office;
 use gd_book::Book;
-use gd_office_part::Receipt;
+use gd_office_part::{Days, Kept, Receipt};
 use gd_reconcile::{Mismatch, ReceiptsFault, reconcile};
 use std::alloc::Global;
 use std::fmt;
@@ -50,15 +50,19 @@ fn fitted_by(alloc: Global, book: &Book, lists: &[Vec<Receipt>]) -> Result<u64, 
     Ok(length)
 }
 
-/// The length of a book's legal history, which all receipts fit.
-fn fitted(alloc: Global, book: &Book, lists: &[Vec<Receipt>]) -> Result<u64, ReceiptsFault>
-    ensures ok { IfOk result (FitAsMany (lists_of lists.now)) }
-    ensures err { IfErr result (ExplainsMisfit (lists_of lists.now)) }
+/// The length of the legal history of a slot's book, which all receipts fit.
+fn fitted<J: Days>(
+    alloc: Global,
+    kept: &Kept<J>,
+    lists: &[Vec<Receipt>],
+) -> Result<u64, ReceiptsFault>
+    ensures ok { IfOk result (FitAsMany J.days kept.now.slot (lists_of lists.now)) }
+    ensures err { IfErr result (ExplainsMisfit J.days kept.now.slot (lists_of lists.now)) }
 {
-    fitted_by(alloc, book, lists)
+    fitted_by(alloc, kept.book(), lists)
 }
 
-impl Office {
+impl<J: Days> Office<J> {
     /// Passes exactly where all receipts fit the one history of a slot's book, and tells its length. It waits for the lock,
     /// under which it looks at all of them. Slots of receipts are not compared.
     ///
@@ -74,13 +78,13 @@ impl Office {
         lists: &[Vec<Receipt>],
     ) -> Result<u64, ReconcileFault>
         ensures there { OnOk result (slot_of self.now.slots.items slot ≢ None) }
-        ensures ok { IfOk result (FitAsMany (lists_of lists.now)) }
-        ensures err { IfErr result (ExplainsReconcile self.now.slots.items slot (lists_of lists.now)) }
+        ensures ok { IfOk result (FitAsMany J.days slot (lists_of lists.now)) }
+        ensures err { IfErr result (ExplainsReconcile J.days self.now.slots.items slot (lists_of lists.now)) }
     {
         let Some(found) = self.slot(slot) else {
             return Err(ReconcileFault::UnknownSlot);
         };
-        match fitted(alloc, found.kept().lock(rt).book(), lists) {
+        match fitted(alloc, &found.lock(rt), lists) {
             Ok(length) => Ok(length),
             Err(ReceiptsFault::Mismatch(place)) => Err(ReconcileFault::Mismatch(place)),
             Err(ReceiptsFault::OutOfMemory) => Err(ReconcileFault::OutOfMemory),

@@ -4,7 +4,7 @@ use Rattle.std.specs.List.{filter_map}
 use Rattle.gd_system.specs.Pipeline.{Pipeline}
 use Rattle.gd_text_part.specs.declared.row.EventRow.{EventRow}
 use Rattle.gd_text_part.specs.declared.row.EventRow.TheVariants as row
-use Rattle.gd_day.specs.Named.{element_named}
+use Rattle.gd_day.specs.ElementNames.{element_named}
 use Rattle.gd_day.specs.declared.text.DayText.{DayText}
 use Rattle.gd_office_phases.specs.Phases.{Called, Round}
 use Rattle.gd_office_part.specs.declared.call.Call.{Call}

@@ -6,7 +6,7 @@ use Rattle.gd_text_part.specs.declared.fault.TextFault.{TextFault}
 use Rattle.gd_text_part.specs.declared.fault.TextFault.TheVariants as fault
 use Rattle.gd_text_part.specs.declared.row.Row.{Row}
 use Rattle.gd_text.specs.Building.{told}
-use Rattle.gd_day.specs.Opened.{Opened, opened_of}
+use Rattle.gd_day.specs.Opening.{Opened, opened_of}
 use Rattle.gd_office_days.specs.Days.{is_taken, opened_under, repeated, told_in}
 
 pub no_head : (days : List Opened) (rows : List Row) (o : Option (ℕ × List ℕ)) → o ≡ None → opened_under days rows o ≡ opened_of rows

@@ -14,7 +14,7 @@ use Rattle.gd_text_part.specs.declared.row.Row.{Row}
 use Rattle.gd_text_part.specs.declared.row.Row.TheVariants as row
 use Rattle.gd_system.specs.declared.BuildFault.TheVariants as build
 use Rattle.gd_text.specs.Building.{built_from}
-use Rattle.gd_day.specs.Opened.{Opened}
+use Rattle.gd_day.specs.Opening.{Opened}
 use Rattle.gd_office_days.specs.Blocks.{blocks_of}
 use Rattle.gd_office_days.specs.Days.{days_of}
 

@@ -10,7 +10,7 @@ use Rattle.gd_text_part.specs.declared.fault.TextFault.TheVariants as fault
 use Rattle.gd_text_part.specs.declared.row.Row.{Row}
 use Rattle.gd_text_part.specs.declared.row.Row.TheVariants as row
 use Rattle.gd_text.specs.Building.{told}
-use Rattle.gd_day.specs.Opened.{Opened, opened_of}
+use Rattle.gd_day.specs.Opening.{Opened, opened_of}
 use Rattle.gd_day.specs.declared.text.DayText.{DayText}
 use Rattle.gd_office_days.specs.Blocks.{Block, blocks_of}
 

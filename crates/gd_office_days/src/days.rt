@@ -4,7 +4,7 @@ ghost use Rattle.std.specs.Prelude.{◌≡◌, ◌⊎◌, ◌≤◌, ◌-◌, Er
 ghost use Rattle.std.specs.List.{IsDistinct, All};
 ghost use Rattle.gd_rules.specs.Lines.{same_key};
 ghost use Rattle.gd_text.specs.Building.{Builds};
-ghost use Rattle.gd_day.specs.Carried.{keys};
+ghost use Rattle.gd_day.specs.Carrying.{keys};
 ghost use Rattle.gd_text_part.specs.declared.fault.TextFault.TheVariants.{OutOfMemory};
 ghost use Rattle.gd_office_days.specs.Blocks.{Block};
 ghost use Rattle.gd_office_days.specs.Days as spec;
@@ -35,7 +35,10 @@ fn repeated(alloc: Global, number: usize, rows: &[Row]) -> TextFault
     ensures { (result ≡ OutOfMemory) ⊎ (spec.repeated number rows.now ≡ Err result) }
 {
     match day_text_of(alloc, &rows[..number]) {
-        Ok(_) => TextFault::at(number as u64, Cause::Duplicate),
+        Ok(day) => {
+            drop(day);
+            TextFault::at(number as u64, Cause::Duplicate)
+        }
         Err(fault) => fault,
     }
 }

@@ -2,14 +2,15 @@
 use Rattle.std.proofs.Common.{◌≡◌, ℕ, ◌+◌, ◌<◌, ◌≤◌, ◌==◌, if◌then◌else◌, zero, suc, Bool, true, false, List, [], ◌∷◌, ◌++◌, length, map, get_or, refl, sym, ap, subst, ◌∙◌, arith, append_assoc, Option, Some, None, Result, Ok, Err, IfOk}
 use Rattle.std.proofs.lemmas.List.{map-append, append-nil}
 use Rattle.std.specs.Global.{Vec}
+use Rattle.gd_machine.specs.Day.{Day}
 use Rattle.gd_office_part.specs.declared.threads.SessionRows.{SessionRows}
 use Rattle.gd_office_part.specs.declared.kept.Receipt.{Receipt}
 use Rattle.gd_office_part.specs.declared.numbers.Numbers.{Numbers}
-use Rattle.gd_office_part.specs.declared.session.Session.{Session}
+use Rattle.gd_office_part.specs.Seen.{Session}
 use Rattle.gd_office_part.specs.Sending.{lists_of}
 use Rattle.gd_office_end.specs.declared.end.End.{End}
 use Rattle.gd_office_end.specs.declared.held.Held.{Held}
-use Rattle.gd_office_end.specs.Picked.{pick, if_slot, Grew, AreEmpty}
+use Rattle.gd_office_end.specs.Picking.{pick, if_slot, Grew, AreEmpty}
 use Rattle.gd_office_end.specs.Ends.{EndsWith}
 use Rattle.gd_office_end.specs.Holding.{items_at, Share, share_at, nothing, plus, IsOf, Gains, of_sessions, of_desk, EndsBy, EndFrom}
 
@@ -62,7 +63,7 @@ share_is a b counts lists numbers desk =
     ∙ ap (λ (x : List ℕ). record { counts = b.counts; lists = b.lists; numbers = x; desk = a.desk }) numbers
     ∙ ap (λ (x : List Receipt). record { counts = b.counts; lists = b.lists; numbers = b.numbers; desk = x }) desk
 
-pub holds_nothing : (held : Held) (slots k : ℕ) → IsOf slots held → AreEmpty held.sessions.items → AreEmpty held.lists.items
+pub holds_nothing : {J : Type 0} (held : Held J) (slots k : ℕ) → IsOf slots held → AreEmpty held.sessions.items → AreEmpty held.lists.items
     → AreEmpty held.numbers.items → AreEmpty held.desks.items → k < slots → share_at held k ≡ nothing
 holds_nothing held slots k of sessions lists numbers desks below =
     share_is (share_at held k) nothing
@@ -72,19 +73,19 @@ holds_nothing held slots k of sessions lists numbers desks below =
     (at_empty held.desks.items k desks (omega (arith, below, of.3)))
 
 -- the sessions of a phase
-pub gains_sessions : (old : Held) (s : Vec (Vec Session)) (l : Vec (Vec (Vec Receipt))) (n : Vec (Vec ℕ))
+pub gains_sessions : {J : Type 0} (old : Held J) (s : Vec (Vec Session)) (l : Vec (Vec (Vec Receipt))) (n : Vec (Vec ℕ))
     (rows : List SessionRows) (sessions : List Session) (lists : List (Vec Receipt)) (numbers : List ℕ) (slots : ℕ) → IsOf slots old
     → Grew old.sessions.items s.items (λ k. pick k rows sessions) → Grew old.lists.items l.items (λ k. pick k rows lists)
     → Grew old.numbers.items n.items (λ k. pick k rows numbers)
-    → IsOf slots (record { sessions = s; lists = l; numbers = n; desks = old.desks })
+    → IsOf {J = J} slots (record { sessions = s; lists = l; numbers = n; desks = old.desks })
     × Gains slots old (record { sessions = s; lists = l; numbers = n; desks = old.desks })
     (λ k. of_sessions k rows (map (λ x. x.numbers) sessions) (lists_of lists) numbers)
-gains_sessions old s l n rows sessions lists numbers slots of gs gl gn =
+gains_sessions {J = J} old s l n rows sessions lists numbers slots of gs gl gn =
     let counted : Session → Numbers = λ x. x.numbers in
     let items : Vec Receipt → List Receipt = λ v. v.items in (
       (gs.0 ∙ of.0, gl.0 ∙ of.1, gn.0 ∙ of.2, of.3),
       λ k below.
-          let new : Held = record { sessions = s; lists = l; numbers = n; desks = old.desks } in
+          let new : Held J = record { sessions = s; lists = l; numbers = n; desks = old.desks } in
           let more : Share = of_sessions k rows (map counted sessions) (lists_of lists) numbers in
           share_is (share_at new k) (plus (share_at old k) more)
           (ap (map counted) (at_grew old.sessions.items s.items (λ j. pick j rows sessions) k gs (omega (arith, below, of.0)))
@@ -98,14 +99,14 @@ gains_sessions old s l n rows sessions lists numbers slots of gs gl gn =
     )
 
 -- a desk without and with a close
-desk_shares : (old : Held) (d : Vec (Vec Receipt)) (more : ℕ → List Receipt) (slots : ℕ) → IsOf slots old → Grew old.desks.items d.items more
-    → IsOf slots (record { sessions = old.sessions; lists = old.lists; numbers = old.numbers; desks = d })
+desk_shares : {J : Type 0} (old : Held J) (d : Vec (Vec Receipt)) (more : ℕ → List Receipt) (slots : ℕ) → IsOf slots old → Grew old.desks.items d.items more
+    → IsOf {J = J} slots (record { sessions = old.sessions; lists = old.lists; numbers = old.numbers; desks = d })
     × Gains slots old (record { sessions = old.sessions; lists = old.lists; numbers = old.numbers; desks = d })
     (λ k. record { counts = []; lists = []; numbers = []; desk = more k })
-desk_shares old d more slots of grew = (
+desk_shares {J = J} old d more slots of grew = (
   (of.0, of.1, of.2, grew.0 ∙ of.3),
   λ k below.
-      let new : Held = record { sessions = old.sessions; lists = old.lists; numbers = old.numbers; desks = d } in
+      let new : Held J = record { sessions = old.sessions; lists = old.lists; numbers = old.numbers; desks = d } in
       share_is (share_at new k) (plus (share_at old k) (record { counts = []; lists = []; numbers = []; desk = more k }))
       (sym (append-nil (map (λ (s : Session). s.numbers) (items_at old.sessions.items k))))
       (sym (append-nil (lists_of (items_at old.lists.items k))))
@@ -113,23 +114,23 @@ desk_shares old d more slots of grew = (
       (at_grew old.desks.items d.items more k grew (omega (arith, below, of.3))),
 )
 
-pub gains_freeze : (old : Held) (d : Vec (Vec Receipt)) (slot : ℕ) (froze : Receipt) (closed : Option Receipt) (slots : ℕ) → closed ≡ None → IsOf slots old
+pub gains_freeze : {J : Type 0} (old : Held J) (d : Vec (Vec Receipt)) (slot : ℕ) (froze : Receipt) (closed : Option Receipt) (slots : ℕ) → closed ≡ None → IsOf slots old
     → Grew old.desks.items d.items (λ k. if_slot slot k froze)
-    → IsOf slots (record { sessions = old.sessions; lists = old.lists; numbers = old.numbers; desks = d })
+    → IsOf {J = J} slots (record { sessions = old.sessions; lists = old.lists; numbers = old.numbers; desks = d })
     × Gains slots old (record { sessions = old.sessions; lists = old.lists; numbers = old.numbers; desks = d }) (λ k. of_desk slot k froze closed)
-gains_freeze old d slot froze None slots none of grew = desk_shares old d (λ k. if_slot slot k froze) slots of grew
-gains_freeze old d slot froze (Some r) slots none of grew = cc
+gains_freeze {J = J} old d slot froze None slots none of grew = desk_shares old d (λ k. if_slot slot k froze) slots of grew
+gains_freeze {J = J} old d slot froze (Some r) slots none of grew = cc
 
 both : (here : Bool) (froze closed : Receipt)
     → (if here then froze ∷ [] else []) ++ (if here then closed ∷ [] else []) ≡ (if here then froze ∷ closed ∷ [] else [])
 both true froze closed = refl
 both false froze closed = refl
 
-gains_two : (old : Held) (m d : Vec (Vec Receipt)) (slot : ℕ) (froze closed : Receipt) (slots : ℕ) → IsOf slots old
+gains_two : {J : Type 0} (old : Held J) (m d : Vec (Vec Receipt)) (slot : ℕ) (froze closed : Receipt) (slots : ℕ) → IsOf slots old
     → Grew old.desks.items m.items (λ k. if_slot slot k froze) → Grew m.items d.items (λ k. if_slot slot k closed)
-    → IsOf slots (record { sessions = old.sessions; lists = old.lists; numbers = old.numbers; desks = d })
+    → IsOf {J = J} slots (record { sessions = old.sessions; lists = old.lists; numbers = old.numbers; desks = d })
     × Gains slots old (record { sessions = old.sessions; lists = old.lists; numbers = old.numbers; desks = d }) (λ k. of_desk slot k froze (Some closed))
-gains_two old m d slot froze closed slots of first second =
+gains_two {J = J} old m d slot froze closed slots of first second =
     desk_shares old d (λ k. if slot == k then froze ∷ closed ∷ [] else []) slots of (
       second.0 ∙ first.0,
       λ k v below.
@@ -138,31 +139,32 @@ gains_two old m d slot froze closed slots of first second =
           ∙ ap (λ (xs : List Receipt). (get_or old.desks.items k v).items ++ xs) (both (slot == k) froze closed),
     )
 
-pub gains_close : (old : Held) (m d : Vec (Vec Receipt)) (slot : ℕ) (froze r : Receipt) (closed : Option Receipt) (slots : ℕ) → closed ≡ Some r → IsOf slots old
+pub gains_close : {J : Type 0} (old : Held J) (m d : Vec (Vec Receipt)) (slot : ℕ) (froze r : Receipt) (closed : Option Receipt) (slots : ℕ) → closed ≡ Some r → IsOf slots old
     → Grew old.desks.items m.items (λ k. if_slot slot k froze) → Grew m.items d.items (λ k. if_slot slot k r)
-    → IsOf slots (record { sessions = old.sessions; lists = old.lists; numbers = old.numbers; desks = d })
+    → IsOf {J = J} slots (record { sessions = old.sessions; lists = old.lists; numbers = old.numbers; desks = d })
     × Gains slots old (record { sessions = old.sessions; lists = old.lists; numbers = old.numbers; desks = d }) (λ k. of_desk slot k froze closed)
-gains_close old m d slot froze r closed slots some of first second =
-    subst (λ (o : Option Receipt). IsOf slots (record { sessions = old.sessions; lists = old.lists; numbers = old.numbers; desks = d })
+gains_close {J = J} old m d slot froze r closed slots some of first second =
+    subst (λ (o : Option Receipt). IsOf {J = J} slots (record { sessions = old.sessions; lists = old.lists; numbers = old.numbers; desks = d })
     × Gains slots old (record { sessions = old.sessions; lists = old.lists; numbers = old.numbers; desks = d }) (λ k. of_desk slot k froze o))
     (sym some) (gains_two old m d slot froze r slots of first second)
 
-pub ends_by : {E : Type 0} (r : Result End E) (share : Share) (desk : List Receipt) (lists : List (List Receipt)) (numbers : List ℕ) (counts : List Numbers)
+pub ends_by : {E : Type 0} (days : List Day) (slot : ℕ) (r : Result End E) (share : Share) (desk : List Receipt) (lists : List (List Receipt)) (numbers : List ℕ) (counts : List Numbers)
     → counts ≡ share.counts → lists ≡ share.lists → numbers ≡ share.numbers → desk ≡ share.desk
-    → IfOk r (EndsWith desk lists numbers counts) → IfOk r (EndsBy share)
-ends_by r share desk lists numbers counts same_counts same_lists same_numbers same_desk ends =
-    subst (λ (s : Share). IfOk r (λ e. EndsWith s.desk s.lists s.numbers s.counts e))
+    → IfOk r (EndsWith days slot desk lists numbers counts) → IfOk r (EndsBy days slot share)
+ends_by days slot r share desk lists numbers counts same_counts same_lists same_numbers same_desk ends =
+    subst (λ (s : Share). IfOk r (λ e. EndsWith days slot s.desk s.lists s.numbers s.counts e))
     (share_is (record { counts = counts; lists = lists; numbers = numbers; desk = desk }) share same_counts same_lists same_numbers same_desk) ends
 
-pub end_more : (share : ℕ → Share) (n m : ℕ) (ends : List End) (e : End) → EndFrom share n ends → m ≡ n + length ends → EndsBy (share m) e
-    → EndFrom share n (ends ++ e ∷ [])
-end_more share n m [] e all is here = let same : m ≡ n = omega (arith, is) in (subst (λ (j : ℕ). EndsBy (share j) e) same here, tt)
-end_more share n m (x ∷ ends) e all is here = (all.0, end_more share (n + 1) m ends e all.1 (omega (arith, is)) here)
+pub end_more : (days : List Day) (share : ℕ → Share) (n m : ℕ) (ends : List End) (e : End) → EndFrom days share n ends → m ≡ n + length ends
+    → EndsBy days (m + 1) (share m) e → EndFrom days share n (ends ++ e ∷ [])
+end_more days share n m [] e all is here = let same : m ≡ n = omega (arith, is) in (subst (λ (j : ℕ). EndsBy days (j + 1) (share j) e) same here, tt)
+end_more days share n m (x ∷ ends) e all is here = (all.0, end_more days share (n + 1) m ends e all.1 (omega (arith, is)) here)
 
 -- shares that are the same make the same ends
-pub end_same : (f g : ℕ → Share) (n : ℕ) (ends : List End) → ((k : ℕ) → n ≤ k → k < n + length ends → f k ≡ g k) → EndFrom f n ends → EndFrom g n ends
-end_same f g n [] same all = tt
-end_same f g n (e ∷ ends) same all = (
-  subst (λ (s : Share). EndsBy s e) (same n (omega arith) (omega arith)) all.0,
-  end_same f g (n + 1) ends (λ k low high. same k (omega (arith, low)) (omega (arith, high))) all.1,
+pub end_same : (days : List Day) (f g : ℕ → Share) (n : ℕ) (ends : List End) → ((k : ℕ) → n ≤ k → k < n + length ends → f k ≡ g k)
+    → EndFrom days f n ends → EndFrom days g n ends
+end_same days f g n [] same all = tt
+end_same days f g n (e ∷ ends) same all = (
+  subst (λ (s : Share). EndsBy days (n + 1) s e) (same n (omega arith) (omega arith)) all.0,
+  end_same days f g (n + 1) ends (λ k low high. same k (omega (arith, low)) (omega (arith, high))) all.1,
 )

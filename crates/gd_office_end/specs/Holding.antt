@@ -1,13 +1,14 @@
 -- What is held of the slots of an office.
 use Rattle.std.specs.Prelude.{◌≡◌, ℕ, ◌+◌, ◌<◌, ◌==◌, if◌then◌else◌, List, [], ◌∷◌, ◌++◌, length, map, get_or, Option, Some, None}
 use Rattle.std.specs.Global.{Vec}
+use Rattle.gd_machine.specs.Day.{Day}
 use Rattle.gd_office_part.specs.declared.kept.Receipt.{Receipt}
 use Rattle.gd_office_part.specs.declared.numbers.Numbers.{Numbers}
 use Rattle.gd_office_part.specs.declared.threads.SessionRows.{SessionRows}
 use Rattle.gd_office_part.specs.Sending.{lists_of}
 use Rattle.gd_office_end.specs.declared.end.End.{End}
 use Rattle.gd_office_end.specs.declared.held.Held.{Held}
-use Rattle.gd_office_end.specs.Picked.{pick}
+use Rattle.gd_office_end.specs.Picking.{pick}
 use Rattle.gd_office_end.specs.Ends.{EndsWith}
 
 -- What is held of a slot: what each of its sessions counted, its receipts and its number, and the receipts of the desk.
@@ -27,7 +28,7 @@ plus a b = record { counts = a.counts ++ b.counts; lists = a.lists ++ b.lists; n
 abbrev pub items_at : {X : Type 0} → List (Vec X) → ℕ → List X
 items_at held k = get_or (map (λ v. v.items) held) k []
 
-abbrev pub share_at : Held → ℕ → Share
+abbrev pub share_at : {J : Type 0} → Held J → ℕ → Share
 share_at held k = record {
   counts = map (λ s. s.numbers) (items_at held.sessions.items k);
   lists = lists_of (items_at held.lists.items k);
@@ -36,13 +37,13 @@ share_at held k = record {
 }
 
 -- It holds something of so many slots.
-abbrev pub IsOf : ℕ → Held → Type 0
+abbrev pub IsOf : {J : Type 0} → ℕ → Held J → Type 0
 IsOf slots held =
     (length held.sessions.items ≡ slots) × (length held.lists.items ≡ slots)
     × (length held.numbers.items ≡ slots) × (length held.desks.items ≡ slots)
 
 -- Each of so many slots gains a share.
-abbrev pub Gains : ℕ → Held → Held → (ℕ → Share) → Type 0
+abbrev pub Gains : {J : Type 0} → ℕ → Held J → Held J → (ℕ → Share) → Type 0
 Gains slots old new more = (k : ℕ) → k < slots → share_at new k ≡ plus (share_at old k) (more k)
 
 -- The share of slot k in the sessions of a phase.
@@ -57,11 +58,11 @@ receipts_of froze (Some closed) = froze ∷ closed ∷ []
 abbrev pub of_desk : ℕ → ℕ → Receipt → Option Receipt → Share
 of_desk slot k froze closed = record { counts = []; lists = []; numbers = []; desk = if slot == k then receipts_of froze closed else [] }
 
--- How a slot ends with its share.
-abbrev pub EndsBy : Share → End → Type 0
-EndsBy share e = EndsWith share.desk share.lists share.numbers share.counts e
+-- How the slot of this number, from 1, ends with its share.
+abbrev pub EndsBy : List Day → ℕ → Share → End → Type 0
+EndsBy days slot share e = EndsWith days slot share.desk share.lists share.numbers share.counts e
 
--- The slots from n on end by their shares.
-abbrev pub EndFrom : (ℕ → Share) → ℕ → List End → Type 0
-EndFrom share n [] = Unit {0}
-EndFrom share n (e ∷ ends) = EndsBy (share n) e × EndFrom share (n + 1) ends
+-- The slots from place n on end by their shares.
+abbrev pub EndFrom : List Day → (ℕ → Share) → ℕ → List End → Type 0
+EndFrom days share n [] = Unit {0}
+EndFrom days share n (e ∷ ends) = EndsBy days (n + 1) (share n) e × EndFrom days share (n + 1) ends

@@ -1,3 +1,3 @@
-pub mod Picked
+pub mod Picking
 pub mod Holding
 pub mod Ends

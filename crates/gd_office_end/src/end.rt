@@ -5,7 +5,7 @@ ghost use Rattle.gd_office_part.specs.Sending.{lists_of};
 ghost use Rattle.gd_office_end.specs.Ends as spec;
 
 use gd_office::{CloseFault, Office, ReconcileFault, close};
-use gd_office_part::{Receipt, Session};
+use gd_office_part::{Days, Receipt, Session};
 use gd_reconcile::Mismatch;
 use std::alloc::{AllocError, Global};
 use std::sync::Wait;
@@ -69,16 +69,16 @@ fn misfit(numbers: &[u64], at: Mismatch) -> Option<End>
 }
 
 /// Holds all receipts of a slot against its book, and tells its end with these sums.
-fn reconciled<R: Wait>(
+fn reconciled<R: Wait, J: Days>(
     rt: &R,
     alloc: Global,
-    office: &Office,
+    office: &Office<J>,
     slot: u32,
     lists: &[Vec<Receipt>],
     numbers: &[u64],
     sums: (u64, u64),
 ) -> Result<End, AllocError>
-    ensures { IfOk result (spec.EndsAs (lists_of lists.now) numbers.now sums.0 sums.1) }
+    ensures { IfOk result (spec.EndsAs J.days slot (lists_of lists.now) numbers.now sums.0 sums.1) }
 {
     match office.reconcile(rt, alloc, slot, lists) {
         Ok(events) => Ok(End::Reconciled {
@@ -94,17 +94,17 @@ fn reconciled<R: Wait>(
 
 /// Closes the sessions of a slot, and holds the receipts of its desk and of its sessions, whose numbers these are, against
 /// its book. It waits for the lock. The only error is want of memory.
-pub(crate) fn end_slot<'o, R: Wait>(
+pub(crate) fn end_slot<'o, R: Wait, J: Days>(
     rt: &R,
     alloc: Global,
-    office: &'o Office,
+    office: &'o Office<J>,
     slot: u32,
-    sessions: Vec<Session<'o>>,
+    sessions: Vec<Session<'o, J>>,
     desk: Vec<Receipt>,
     lists: Vec<Vec<Receipt>>,
     numbers: &[u64],
 ) -> Result<End, AllocError>
-    ensures { IfOk result (spec.EndsWith desk.items (lists_of lists.items) numbers.now
+    ensures { IfOk result (spec.EndsWith J.days slot desk.items (lists_of lists.items) numbers.now
         (map (λ s. s.numbers) sessions.entry.items)) }
 {
     let all = all_lists(alloc, desk, lists)?;

@@ -1,6 +1,6 @@
 //! What an office's run holds of its slots until they end.
 
-ghost use Rattle.std.specs.Prelude.{◌≡◌, ◌<◌, ◌≤◌, ℕ, OnOk, IfOk, map, length as len_of};
+ghost use Rattle.std.specs.Prelude.{◌≡◌, ◌+◌, ◌<◌, ◌≤◌, ℕ, OnOk, IfOk, map, length as len_of};
 ghost use Rattle.gd_office.specs.declared.fault.TheConstants.{MAX_SLOTS};
 ghost use Rattle.gd_office_part.specs.Sending.{lists_of};
 ghost use Rattle.gd_office_end.specs.Holding as spec;
@@ -8,22 +8,22 @@ ghost use Rattle.gd_office_end.specs.Holding as spec;
 use crate::end::{End, end_slot};
 use crate::slot::{distribute, give, lists_for, take_at};
 use gd_office::Office;
-use gd_office_part::{Receipt, Session, SessionRows};
+use gd_office_part::{Days, Receipt, Session, SessionRows};
 use std::alloc::{AllocError, Global};
 use std::sync::Wait;
 
 /// What is held of each slot, by its place: its sessions, the receipts and the number of each, and the receipts of its desk.
 #[derive(Drop)]
-pub struct Held<'o> {
-    sessions: Vec<Vec<Session<'o>>>,
+pub struct Held<'o, J: Days> {
+    sessions: Vec<Vec<Session<'o, J>>>,
     lists: Vec<Vec<Vec<Receipt>>>,
     numbers: Vec<Vec<u64>>,
     desks: Vec<Vec<Receipt>>,
 }
 
-impl<'o> Held<'o> {
+impl<'o, J: Days> Held<'o, J> {
     /// Nothing yet of so many slots. The only error is want of memory.
-    pub fn new(alloc: Global, slots: usize) -> Result<Held<'o>, AllocError>
+    pub fn new(alloc: Global, slots: usize) -> Result<Held<'o, J>, AllocError>
         ensures slots { IfOk result (λ held. spec.IsOf slots held) }
         ensures nothing { IfOk result (λ held. (k : ℕ) → k < slots
             → spec.share_at held k ≡ spec.nothing) }
@@ -41,7 +41,7 @@ impl<'o> Held<'o> {
     pub fn take_sessions(
         &mut self,
         rows: &[SessionRows],
-        sessions: Vec<Session<'o>>,
+        sessions: Vec<Session<'o, J>>,
         lists: Vec<Vec<Receipt>>,
         numbers: Vec<u64>,
     ) -> Result<(), AllocError>
@@ -79,16 +79,16 @@ impl<'o> Held<'o> {
 }
 
 /// The end of the slot at this place.
-fn end_at<'o, R: Wait>(
+fn end_at<'o, R: Wait, J: Days>(
     rt: &R,
     alloc: Global,
-    office: &'o Office,
-    held: &mut Held<'o>,
+    office: &'o Office<J>,
+    held: &mut Held<'o, J>,
     at: usize,
 ) -> Result<End, AllocError>
     requires few { at < MAX_SLOTS }
     requires there { (slots : ℕ) × spec.IsOf slots held.old × (at < slots) }
-    ensures ends { IfOk result (spec.EndsBy (spec.share_at held.old at)) }
+    ensures ends { IfOk result (spec.EndsBy J.days (at + 1) (spec.share_at held.old at)) }
     ensures same { (slots : ℕ) → spec.IsOf slots held.old → spec.IsOf slots held.new }
     ensures others { (k : ℕ) → at < k → spec.share_at held.new k ≡ spec.share_at held.old k }
 {
@@ -110,17 +110,17 @@ fn end_at<'o, R: Wait>(
 }
 
 /// Ends so many slots in order, of which this is held. It waits for their locks. The only error is want of memory.
-pub fn end_slots<'o, R: Wait>(
+pub fn end_slots<'o, R: Wait, J: Days>(
     rt: &R,
     alloc: Global,
-    office: &'o Office,
-    held: Held<'o>,
+    office: &'o Office<J>,
+    held: Held<'o, J>,
     slots: usize,
 ) -> Result<Vec<End>, AllocError>
     requires few { slots ≤ MAX_SLOTS }
     requires held { spec.IsOf slots held }
     ensures len { IfOk result (λ ends. len_of ends.items ≡ slots) }
-    ensures ends { IfOk result (λ ends. spec.EndFrom (spec.share_at held.entry) 0 ends.items) }
+    ensures ends { IfOk result (λ ends. spec.EndFrom J.days (spec.share_at held.entry) 0 ends.items) }
 {
     let mut held = held;
     let mut ends = Vec::with_capacity(alloc, slots)?;

@@ -2,7 +2,7 @@
 
 ghost use Rattle.std.specs.Prelude.{◌≡◌, ◌≢◌, ◌<◌, ℕ, [], OnOk, IfOk, length as len_of, get_or};
 ghost use Rattle.std.specs.Global.{Vec as AVec};
-ghost use Rattle.gd_office_end.specs.Picked as spec;
+ghost use Rattle.gd_office_end.specs.Picking as spec;
 
 use gd_office_part::SessionRows;
 use std::alloc::{AllocError, Global};

@@ -1,4 +1,6 @@
-pub mod Told
+pub mod Days
+pub mod Seen
+pub mod StepResults
 pub mod Calls
 pub mod Counting
 pub mod Closing

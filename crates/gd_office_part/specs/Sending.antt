@@ -9,8 +9,8 @@ use Rattle.gd_office_part.specs.declared.numbers.Numbers.{Numbers}
 use Rattle.gd_office_part.specs.declared.threads.SessionRows.{SessionRows}
 use Rattle.gd_office_part.specs.declared.sent.Sent.{Sent}
 use Rattle.gd_office_part.specs.declared.threads.Start.{Start}
-use Rattle.gd_office_part.specs.declared.session.Session.{Session}
-use Rattle.gd_office_part.specs.declared.session.Slot.{Slot}
+use Rattle.gd_office_part.specs.Seen.{Session}
+use Rattle.gd_office_part.specs.Seen.{Slot}
 use Rattle.gd_office_part.specs.Calls.{event_of}
 use Rattle.gd_office_part.specs.Counting.{counted_all}
 

@@ -9,14 +9,16 @@ ghost use Rattle.gd_machine.specs.declared.event.Event.{Event as AnEvent};
 ghost use Rattle.gd_machine.specs.declared.refusal.Refusal.TheVariants as refusal;
 ghost use Rattle.gd_machine.specs.Day.{Day};
 ghost use Rattle.gd_machine.specs.History.{History, cycle_of, is_frozen};
-ghost use Rattle.gd_machine.specs.Asked.{question};
+ghost use Rattle.gd_machine.specs.Asking.{question};
 ghost use Rattle.gd_machine.specs.Machine.{Step};
-ghost use Rattle.gd_book.specs.Posted.{Posts};
+ghost use Rattle.gd_book.specs.Postings.{Posts};
 ghost use Rattle.gd_office_part.specs.declared.kept.TheConstants.{MAX_SESSIONS};
 ghost use Rattle.gd_office_part.specs.declared.session.OfficeFault.TheVariants as fault;
-ghost use Rattle.gd_office_part.specs.Told.{Tells, PostsWhere, IsFrozenAtMost};
+ghost use Rattle.gd_office_part.specs.Days.{IsDayOf};
+ghost use Rattle.gd_office_part.specs.StepResults.{Tells, PostsWhere, IsFrozenAtMost};
 ghost use Rattle.gd_office_part.specs.Counting.{none, plus, numbers_of};
 
+use crate::days::Days;
 use crate::numbers::Numbers;
 use crate::session::{OfficeFault, Session};
 use crate::sums::Sums;
@@ -25,6 +27,7 @@ use gd_book::{Book, Event, Refusal, Reply};
 use gd_question::Question;
 use gd_units::Moment;
 use std::alloc::{AllocError, Global};
+use std::marker::PhantomData;
 
 /// How many sessions of one slot may be open at a time.
 pub const MAX_SESSIONS: u32 = 1_024;
@@ -70,16 +73,18 @@ impl Receipt {
 }
 
 /// A book and its slot, how many of its sessions are open, what the book had accepted when it was put there, and what the
-/// sessions closed since then counted together.
+/// sessions closed since then counted together. The book is the one that was opened for this slot.
 #[derive(Drop)]
-pub struct Kept {
+pub struct Kept<J: Days> {
     alloc: Global,
     slot: u32,
     book: Book,
     live: u32,
     before: Numbers,
     closed: Numbers,
+    of: PhantomData<J>,
     ghost few: { live ≤ MAX_SESSIONS },
+    ghost day: { IsDayOf J.days slot book.day },
 }
 
 /// Makes the book's own call for an event.
@@ -146,11 +151,12 @@ fn told_of(length: u64, answer: Result<Reply, Refusal>) -> Result<Told, AllocErr
     }
 }
 
-impl Kept {
+impl<J: Days> Kept<J> {
     ghost use Rattle.gd_office_part.specs.Closing.{Closes, total_of};
 
     /// A book that is put under the lock of this slot, with no session.
-    pub fn of(alloc: Global, slot: u32, book: Book) -> Kept
+    pub fn of(alloc: Global, slot: u32, book: Book) -> Kept<J>
+        requires { IsDayOf J.days slot book.day }
         ensures slot { result.slot ≡ slot }
         ensures book { result.book ≡ book }
         ensures live { result.live ≡ 0 }
@@ -164,12 +170,21 @@ impl Kept {
             closed: Numbers::none(),
             book,
             live: 0,
+            of: PhantomData,
         }
+    }
+
+    /// The number of the slot.
+    pub fn slot(&self) -> u32
+        ensures { result ≡ self.now.slot }
+    {
+        self.slot
     }
 
     /// The book.
     pub fn book(&self) -> &Book
-        ensures { result.now ≡ self.now.book }
+        ensures book { result.now ≡ self.now.book }
+        ensures day { IsDayOf J.days self.now.slot self.now.book.day }
     {
         &self.book
     }
@@ -199,7 +214,7 @@ impl Kept {
     /// # Errors
     ///
     /// How many of the open sessions are not among these. 0 stands for sums that differ, or for too many sessions.
-    pub fn close_in(&mut self, sessions: &[Session<'_>]) -> Result<(u64, u64), u64>
+    pub fn close_in(&mut self, sessions: &[Session<'_, J>]) -> Result<(u64, u64), u64>
         ensures closes { OnOk result (Closes self.old sessions.now) }
         ensures sums { IfOk result (λ sums. (sums.0 ≡ (total_of sessions.now).nominations)
             × (sums.1 ≡ (total_of sessions.now).dekatherms)) }

@@ -8,6 +8,7 @@
 #![tactic(auto)]
 
 mod call;
+mod days;
 mod kept;
 mod numbers;
 mod sent;
@@ -16,6 +17,7 @@ mod sums;
 mod threads;
 
 pub use call::Call;
+pub use days::Days;
 pub use kept::{Kept, MAX_SESSIONS, Receipt, Told};
 pub use numbers::Numbers;
 pub use session::{OfficeFault, Session, Slot};

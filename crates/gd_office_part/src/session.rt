@@ -1,13 +1,16 @@
 //! Slots, and sessions that call the book of one slot in any thread.
 
 ghost use Rattle.std.specs.Prelude.{◌≡◌, ◌-◌, ◌≤◌, Some, length as len_of, IfOk, IfErr, OnErr};
+ghost use Rattle.std.specs.Sync.Mutex.{mutex_guard_value};
 ghost use Rattle.gd_machine.specs.declared.event.Event.TheVariants as event;
 ghost use Rattle.gd_office_part.specs.declared.session.OfficeFault.TheVariants as fault;
 ghost use Rattle.gd_office_part.specs.Calls.{event_of};
 ghost use Rattle.gd_office_part.specs.Counting.{none, counted};
+ghost use Rattle.gd_office_part.specs.Days.{IsDayOf};
 ghost use Rattle.gd_office_part.specs.Names.{office_fault_name};
 
 use crate::call::Call;
+use crate::days::Days;
 use crate::kept::{Kept, Receipt, Told};
 use crate::numbers::Numbers;
 use gd_board::Board;
@@ -17,7 +20,8 @@ use gd_system::Element;
 use gd_units::{Dth, End, Moment, Name};
 use std::alloc::{AllocError, Global};
 use std::fmt;
-use std::sync::{Mutex, Wait};
+use std::marker::Model;
+use std::sync::{Mutex, MutexGuard, Wait};
 
 /// Why a session can't be opened. It is printed by its name.
 #[derive(Clone, Copy, Debug, PartialEq, Eq, Drop)]
@@ -40,27 +44,48 @@ impl fmt::Display for OfficeFault {
 }
 
 /// A book under its lock, and the board on which it publishes.
+///
+/// A contract sees its number and the cells of the board.
 #[derive(Drop)]
-pub struct Slot {
+pub struct Slot<J: Days> {
     number: u32,
-    kept: Mutex<Kept>,
+    kept: Mutex<Kept<J>>,
     board: Board,
 }
 
-/// A party's calls to the book of one slot, and what was accepted of them.
-#[derive(Drop)]
-pub struct Session<'o> {
-    slot: &'o Slot,
-    number: u32,
-    party: Name,
-    pub(crate) numbers: Numbers,
+impl<J: Days> Model for Slot<J> {
+    ghost use Rattle.gd_office_part.specs.Seen.{Slot as Seen};
+
+    ghost Value = { Seen };
+
+    ghost view = { λ s. record { number = s.number; board = s.board } };
 }
 
-impl Slot {
+/// A party's calls to the book of one slot, and what was accepted of them.
+///
+/// A contract sees the slot's number, the party and what was accepted.
+#[derive(Drop)]
+pub struct Session<'o, J: Days> {
+    slot: &'o Slot<J>,
+    number: u32,
+    party: Name,
+    numbers: Numbers,
+}
+
+impl<'o, J: Days> Model for Session<'o, J> {
+    ghost use Rattle.gd_office_part.specs.Seen.{Session as Seen};
+
+    ghost Value = { Seen };
+
+    ghost view = { λ s. record { number = s.number; party = s.party; numbers = s.numbers } };
+}
+
+impl<J: Days> Slot<J> {
     ghost use Rattle.gd_office_part.specs.Closing.{total_of};
 
     /// The slot of this number, with a board on which nothing is posted yet.
-    pub fn new(alloc: Global, number: u32, book: Book) -> Slot
+    pub fn new(alloc: Global, number: u32, book: Book) -> Slot<J>
+        requires { IsDayOf J.days number book.day }
         ensures { result.number ≡ number }
     {
         Slot {
@@ -77,9 +102,20 @@ impl Slot {
         self.number
     }
 
-    /// The lock, and the book behind it.
-    pub fn kept(&self) -> &Mutex<Kept> {
-        &self.kept
+    /// The book of this slot, whose lock it waits for and holds.
+    ///
+    /// No contract can say what stands behind a lock, so that the number of the book's slot is compared here. It never
+    /// differs; where it did, this would wait for ever.
+    pub fn lock<R: Wait>(&self, rt: &R) -> MutexGuard<'_, Kept<J>>
+        ensures { (mutex_guard_value result).slot ≡ self.now.number }
+    {
+        for _ in rt.forever() {
+            let kept = self.kept.lock(rt);
+            if kept.slot() == self.number {
+                return kept;
+            }
+        }
+        unreachable!()
     }
 
     /// The board, which is read without the lock.
@@ -94,13 +130,13 @@ impl Slot {
     /// # Errors
     ///
     /// `TooMany` where 1,024 sessions of the slot are open.
-    pub fn session<R: Wait>(&self, rt: &R, party: Name) -> Result<Session<'_>, OfficeFault>
+    pub fn session<R: Wait>(&self, rt: &R, party: Name) -> Result<Session<'_, J>, OfficeFault>
         ensures slot { IfOk result (λ session. session.number ≡ self.now.number) }
         ensures party { IfOk result (λ session. session.party ≡ party) }
         ensures numbers { IfOk result (λ session. session.numbers ≡ none) }
         ensures err { IfErr result (λ why. why ≡ fault.TooMany) }
     {
-        self.kept.lock(rt).count_session()?;
+        self.lock(rt).count_session()?;
         Ok(Session {
             slot: self,
             number: self.number,
@@ -116,20 +152,20 @@ impl Slot {
     ///
     /// How many of the open sessions are not among these. 0 stands for sums that differ from what the book gained, or for
     /// sessions of another slot.
-    pub fn close<R: Wait>(&self, rt: &R, sessions: &[Session<'_>]) -> Result<(u64, u64), u64>
+    pub fn close<R: Wait>(&self, rt: &R, sessions: &[Session<'_, J>]) -> Result<(u64, u64), u64>
         ensures sums { IfOk result (λ sums. (sums.0 ≡ (total_of sessions.now).nominations)
             × (sums.1 ≡ (total_of sessions.now).dekatherms)) }
         ensures missing { IfErr result (λ missing. missing ≤ 1024 - len_of sessions.now) }
     {
-        self.kept.lock(rt).close_in(sessions)
+        self.lock(rt).close_in(sessions)
     }
 }
 
 /// Makes a call of this party to the book of a slot, by one step under the lock: its receipt, and a session's numbers after
 /// it. It waits for the lock. The only error is want of memory, or numbers of 2^64; then nothing was accepted.
-pub(crate) fn call_by<R: Wait>(
+pub(crate) fn call_by<R: Wait, J: Days>(
     rt: &R,
-    slot: &Slot,
+    slot: &Slot<J>,
     numbers: Numbers,
     party: Name,
     call: Call,
@@ -142,7 +178,7 @@ pub(crate) fn call_by<R: Wait>(
         return Err(AllocError);
     };
     let mut note = slot.board.note();
-    let receipt = slot.kept.lock(rt).step_in(event, &slot.board, &mut note)?;
+    let receipt = slot.lock(rt).step_in(event, &slot.board, &mut note)?;
     let after = match receipt.told() {
         Told::Accepted(..) => next,
         Told::Refused(..) => numbers,
@@ -150,7 +186,9 @@ pub(crate) fn call_by<R: Wait>(
     Ok((receipt, after))
 }
 
-impl<'o> Session<'o> {
+impl<'o, J: Days> Session<'o, J> {
+    ghost use Rattle.gd_office_part.specs.Sending.{kept_of};
+
     /// What was accepted of its calls.
     pub fn numbers(&self) -> Numbers
         ensures { result ≡ self.now.numbers }
@@ -170,6 +208,14 @@ impl<'o> Session<'o> {
         ensures { result ≡ self.now.party }
     {
         self.party
+    }
+
+    /// Has counted so much from now on.
+    pub(crate) fn count(&mut self, numbers: Numbers)
+        ensures numbers { self.new.numbers ≡ numbers }
+        ensures kept { kept_of self.new ≡ kept_of self.old }
+    {
+        self.numbers = numbers;
     }
 
     /// Makes a call, and counts it where it is accepted.

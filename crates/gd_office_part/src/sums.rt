@@ -3,6 +3,7 @@
 ghost use Rattle.std.specs.Prelude.{◌≡◌, ◌+◌, ◌≤◌, ◌↔◌, length as len_of, sum_by, IsTrue};
 ghost use Rattle.gd_office_part.specs.declared.kept.TheConstants.{MAX_SESSIONS};
 
+use crate::days::Days;
 use crate::numbers::Numbers;
 use crate::session::Session;
 
@@ -18,7 +19,7 @@ impl Sums {
     ghost use Rattle.gd_office_part.specs.Sums.{IsSmall};
 
     /// What these sessions counted together.
-    pub(crate) fn of(sessions: &[Session<'_>]) -> Sums
+    pub(crate) fn of<J: Days>(sessions: &[Session<'_, J>]) -> Sums
         requires { len_of sessions.now ≤ MAX_SESSIONS }
         ensures calls { result.calls ≡ sum_by (λ s. s.numbers.calls) sessions.now }
         ensures nominations { result.nominations ≡ sum_by (λ s. s.numbers.nominations) sessions.now }

@@ -5,6 +5,7 @@ ghost use Rattle.std.specs.List.{AllZip};
 ghost use Rattle.gd_office_part.specs.Sending as spec;
 
 use crate::call::Call;
+use crate::days::Days;
 use crate::kept::Receipt;
 use crate::numbers::Numbers;
 use crate::sent::Sent;
@@ -68,10 +69,10 @@ impl Promise<Result<Sent, AllocError>> for SentOf {
 }
 
 /// Makes the calls of one session in their order.
-fn make_calls<R: Wait>(
+fn make_calls<R: Wait, J: Days>(
     rt: &R,
     alloc: Global,
-    slot: &Slot,
+    slot: &Slot<J>,
     start: &Start,
     calls: &[Call],
 ) -> Result<Sent, AllocError>
@@ -118,10 +119,10 @@ fn join_all<R: Threads>(
 }
 
 /// Makes the calls of all sessions, each session in its own thread, and waits for all.
-fn send_all<R: Threads + Wait + Sync>(
+fn send_all<R: Threads + Wait + Sync, J: Days + Send + Sync>(
     rt: &R,
     alloc: Global,
-    slots: &[Slot],
+    slots: &[Slot<J>],
     starts: &[Start],
     rows: &[SessionRows],
 ) -> Result<Vec<Sent>, SendFault>
@@ -162,7 +163,7 @@ fn send_all<R: Threads + Wait + Sync>(
 }
 
 /// What the threads are told of these sessions.
-fn starts_of(alloc: Global, sessions: &[Session<'_>]) -> Result<Vec<Start>, AllocError>
+fn starts_of<J: Days>(alloc: Global, sessions: &[Session<'_, J>]) -> Result<Vec<Start>, AllocError>
     ensures { IfOk result (λ starts. starts.items ≡ map spec.start_of sessions.now) }
 {
     let mut starts = Vec::with_capacity(alloc, sessions.len())?;
@@ -193,19 +194,19 @@ fn taken_apart(
 }
 
 /// Gives each session its numbers.
-fn count_all(sessions: &mut [Session<'_>], numbers: &[Numbers])
+fn count_all<J: Days>(sessions: &mut [Session<'_, J>], numbers: &[Numbers])
     requires { len_of sessions.old ≡ len_of numbers.now }
     ensures numbers { map (λ s. s.numbers) sessions.new ≡ numbers.now }
     ensures kept { map spec.kept_of sessions.new ≡ map spec.kept_of sessions.old }
 {
     for at in 0..numbers.len() {
         let session = &mut sessions[at];
-        session.numbers = numbers[at];
+        session.count(numbers[at]);
     }
 }
 
 /// Whether the slot at the place of these rows is the session's.
-fn is_of_slot(slots: &[Slot], session: &Session<'_>, rows: &SessionRows) -> bool
+fn is_of_slot<J: Days>(slots: &[Slot<J>], session: &Session<'_, J>, rows: &SessionRows) -> bool
     ensures { IsTrue result ↔ spec.IsOfSlot slots.now session.now rows.now }
 {
     match slots.get(rows.slot) {
@@ -215,7 +216,11 @@ fn is_of_slot(slots: &[Slot], session: &Session<'_>, rows: &SessionRows) -> bool
 }
 
 /// Whether the slots at the places of these rows are the sessions'.
-fn are_of_slots(slots: &[Slot], sessions: &[Session<'_>], rows: &[SessionRows]) -> bool
+fn are_of_slots<J: Days>(
+    slots: &[Slot<J>],
+    sessions: &[Session<'_, J>],
+    rows: &[SessionRows],
+) -> bool
     requires { len_of sessions.now ≡ len_of rows.now }
     ensures { IsTrue result ↔ AllZip (spec.IsOfSlot slots.now) sessions.now rows.now }
 {
@@ -234,11 +239,11 @@ fn are_of_slots(slots: &[Slot], sessions: &[Session<'_>], rows: &[SessionRows]) 
 ///
 /// `OtherSlot`, before any call is made; `NoThread` and `OutOfMemory`, after which calls may have been made whose receipts
 /// are lost. No session counts anything then, and its slot can't be closed any more.
-pub fn send<R: Threads + Wait + Sync>(
+pub fn send<R: Threads + Wait + Sync, J: Days + Send + Sync>(
     rt: &R,
     alloc: Global,
-    slots: &[Slot],
-    sessions: &mut [Session<'_>],
+    slots: &[Slot<J>],
+    sessions: &mut [Session<'_, J>],
     rows: &[SessionRows],
 ) -> Result<Vec<Vec<Receipt>>, SendFault>
     requires { len_of sessions.old ≡ len_of rows.now }

@@ -1,3 +1,4 @@
 mod Opening
 mod Runs
+mod Shapes
 mod Shares

@@ -6,7 +6,7 @@ use Rattle.std.proofs.Math.Seq.{take-append_seam}
 use Rattle.gd_machine.specs.declared.event.Event.{Event}
 use Rattle.gd_office_part.specs.declared.numbers.Numbers.{Numbers}
 use Rattle.gd_office_part.specs.declared.kept.Receipt.{Receipt}
-use Rattle.gd_office_part.specs.declared.session.Session.{Session}
+use Rattle.gd_office_part.specs.Seen.{Session}
 use Rattle.gd_office_part.specs.declared.threads.SessionRows.{SessionRows}
 use Rattle.gd_office_part.specs.Counting.{none, counted_all}
 use Rattle.gd_office_part.specs.Sending.{events_of, events_by, kept_of, AreSent, AreCounted}

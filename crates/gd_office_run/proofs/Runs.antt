@@ -6,12 +6,13 @@ use Rattle.std.proofs.lemmas.List.Sums.{sum_by-append}
 use Rattle.std.proofs.lemmas.List.Elements.{All-push}
 use Rattle.std.proofs.lemmas.Grind.{flat_map-append}
 use Rattle.gd_desk.specs.declared.desk.Desk.{Desk}
+use Rattle.gd_machine.specs.Day.{Day}
 use Rattle.gd_office_part.specs.declared.kept.Receipt.{Receipt}
 use Rattle.gd_office_part.specs.declared.threads.Phase.{Phase}
 use Rattle.gd_office_run.specs.Runs.{Outcome, Gives, HasGiven, AreNumbered, IsRun, outcome_rows, phase_rows, run_rows}
 use Rattle.gd_office_end.specs.declared.held.Held.{Held}
 use Rattle.gd_office_run.specs.Shares.{HoldsRun}
-use Rattle.gd_office_run.specs.Told.{EndsEarly}
+use Rattle.gd_office_run.specs.RunRows.{EndsEarly}
 use Rattle.gd_replies.specs.declared.reply.Reply.{Reply}
 
 -- how many sessions these phases had
@@ -28,15 +29,15 @@ numbered_more (x ∷ os) first o all here =
 pub sessions_more : (os : List Outcome) (o : Outcome) → sessions_in (os ++ o ∷ []) ≡ sessions_in os + vec_len o.phase.sessions
 sessions_more os o = omega (arith, sum_by-append (λ (y : Outcome). vec_len y.phase.sessions) os (o ∷ []))
 
-pub run_at : (slots : ℕ) (phases : List Phase) (i : ℕ) (p : Phase) (first : ℕ) (lists : List (List Receipt)) (desks : List Desk) (os : List Outcome)
-    → i < length phases → p ≡ get_or phases i p → IsRun slots (take i phases) os → Gives slots p lists desks → first ≡ 1 + sessions_in os
-    → IsRun slots (take (i + 1) phases) (os ++ record { first = first; phase = p; lists = lists; desks = desks } ∷ [])
-run_at slots phases i p first lists desks os below is run gives number =
+pub run_at : (known : List Day) (slots : ℕ) (phases : List Phase) (i : ℕ) (p : Phase) (first : ℕ) (lists : List (List Receipt)) (desks : List Desk) (os : List Outcome)
+    → i < length phases → p ≡ get_or phases i p → IsRun known slots (take i phases) os → Gives known slots p lists desks → first ≡ 1 + sessions_in os
+    → IsRun known slots (take (i + 1) phases) (os ++ record { first = first; phase = p; lists = lists; desks = desks } ∷ [])
+run_at known slots phases i p first lists desks os below is run gives number =
     let o : Outcome = record { first = first; phase = p; lists = lists; desks = desks } in
     let more : take (i + 1) phases ≡ take i phases ++ p ∷ [] = take_more phases i p below ∙ ap (λ (x : Phase). take i phases ++ x ∷ []) (sym is) in (
       map-append (λ (x : Outcome). x.phase) os (o ∷ []) ∙ ap (λ (ps : List Phase). ps ++ p ∷ []) run.0 ∙ sym more,
       numbered_more os 1 o run.1 number,
-      All-push (HasGiven slots) os o run.2 gives,
+      All-push (HasGiven known slots) os o run.2 gives,
     )
 
 pub rows_more : (os : List Outcome) (first : ℕ) (p : Phase) (lists : List (List Receipt)) (desks : List Desk) (rows after : List Reply)
@@ -58,9 +59,10 @@ range_more a (suc n) =
     ∙ ap (λ (l : List ℕ). a ∷ l) (range_more (a + 1) n ∙ ap (λ (m : ℕ). range_with_len (a + 1) n ++ m ∷ []) same)
 
 -- a run that is told and held, without its ends
-pub early : (slots : ℕ) (phases : List Phase) (rows after : List Reply) (held : Held) → HoldsRun slots phases rows held → after ≡ rows → EndsEarly slots phases after
-early slots phases rows after held holds same =
-    (length phases, holds.0, subst (λ (ps : List Phase). IsRun slots ps holds.0) (sym (take_all (length phases) phases (omega arith))) holds.1, same ∙ holds.2)
+pub early : {J : Type 0} (known : List Day) (slots : ℕ) (phases : List Phase) (rows after : List Reply) (held : Held J) → HoldsRun known slots phases rows held → after ≡ rows
+    → EndsEarly known slots phases after
+early known slots phases rows after held holds same =
+    (length phases, holds.0, subst (λ (ps : List Phase). IsRun known slots ps holds.0) (sym (take_all (length phases) phases (omega arith))) holds.1, same ∙ holds.2)
 
 pub on_err : {T E : Type 0} (r : Result T E) (P : Type 0) → P → OnErr r P
 on_err (Ok x) P p = tt

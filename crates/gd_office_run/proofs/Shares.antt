@@ -47,7 +47,7 @@ share_more (x ∷ os) o k =
     let mine = share_in x.first x.phase x.lists x.desks k in
     ap (λ (s : Share). plus mine s) (share_more os o k) ∙ sym (plus_assoc mine (share_of os k) (share_in o.first o.phase o.lists o.desks k))
 
-pub holds_more : (slots : ℕ) (held new : Held) (os : List Outcome) (first : ℕ) (p : Phase) (lists : List (List Receipt)) (desks : List Desk)
+pub holds_more : {J : Type 0} (slots : ℕ) (held new : Held J) (os : List Outcome) (first : ℕ) (p : Phase) (lists : List (List Receipt)) (desks : List Desk)
     → Holds slots held os → IsOf slots new → Gains slots held new (share_in first p lists desks)
     → Holds slots new (os ++ record { first = first; phase = p; lists = lists; desks = desks } ∷ [])
 holds_more slots held new os first p lists desks holds of gains =

@@ -1,3 +1,3 @@
 pub mod Runs
 pub mod Shares
-pub mod Told
+pub mod RunRows

@@ -2,10 +2,11 @@
 use Rattle.std.specs.Prelude.{◌≡◌, ℕ, ◌+◌, List, [], ◌∷◌, ◌++◌, length, map, vec_len}
 use Rattle.std.specs.List.{All, flat_map}
 use Rattle.gd_desk.specs.declared.desk.Desk.{Desk}
-use Rattle.gd_desk.specs.Desks.{IsDesk}
+use Rattle.gd_desk.specs.Desks.{AreDesks}
+use Rattle.gd_machine.specs.Day.{Day}
 use Rattle.gd_office_part.specs.declared.kept.Receipt.{Receipt}
 use Rattle.gd_office_part.specs.declared.numbers.Numbers.{Numbers}
-use Rattle.gd_office_part.specs.declared.session.Session.{Session}
+use Rattle.gd_office_part.specs.Seen.{Session}
 use Rattle.gd_office_part.specs.declared.threads.Phase.{Phase}
 use Rattle.gd_office_part.specs.declared.threads.SessionRows.{SessionRows}
 use Rattle.gd_office_part.specs.Counting.{none, counted_all}
@@ -29,9 +30,9 @@ AreReceipts rows lists = map events_of lists ≡ map (λ r. events_by r.party r.
 abbrev pub counts_of : List (List Receipt) → List Numbers
 counts_of lists = map (counted_all none) lists
 
--- A phase gives the receipts of its sessions, and a desk of its moment for each slot.
-abbrev pub Gives : ℕ → Phase → List (List Receipt) → List Desk → Type 0
-Gives slots p lists desks = AreReceipts p.sessions.items lists × All (IsDesk p.moment) desks × (length desks ≡ slots)
+-- A phase gives the receipts of its sessions, and a desk of its moment for each slot, by a book with the slot's opening values.
+abbrev pub Gives : List Day → ℕ → Phase → List (List Receipt) → List Desk → Type 0
+Gives days slots p lists desks = AreReceipts p.sessions.items lists × AreDesks days p.moment desks × (length desks ≡ slots)
 
 abbrev pub desk_rows_of : ℕ → Desk → List Reply
 desk_rows_of slot d = desk_rows slot d.froze d.question d.closed
@@ -52,8 +53,8 @@ pub record Outcome : Type 0 where
   pub lists : List (List Receipt)
   pub desks : List Desk
 
-abbrev pub HasGiven : ℕ → Outcome → Type 0
-HasGiven slots o = Gives slots o.phase o.lists o.desks
+abbrev pub HasGiven : List Day → ℕ → Outcome → Type 0
+HasGiven days slots o = Gives days slots o.phase o.lists o.desks
 
 -- The sessions count from this number on, over all phases.
 abbrev pub AreNumbered : ℕ → List Outcome → Type 0
@@ -61,8 +62,8 @@ AreNumbered first [] = Unit {0}
 AreNumbered first (o ∷ os) = (o.first ≡ first) × AreNumbered (first + vec_len o.phase.sessions) os
 
 -- What each of these phases gave, in order, with sessions that count from 1 over all of them.
-abbrev pub IsRun : ℕ → List Phase → List Outcome → Type 0
-IsRun slots phases os = (map (λ o. o.phase) os ≡ phases) × AreNumbered 1 os × All (HasGiven slots) os
+abbrev pub IsRun : List Day → ℕ → List Phase → List Outcome → Type 0
+IsRun days slots phases os = (map (λ o. o.phase) os ≡ phases) × AreNumbered 1 os × All (HasGiven days slots) os
 
 abbrev pub outcome_rows : Outcome → List Reply
 outcome_rows o = phase_rows o.first o.lists o.desks

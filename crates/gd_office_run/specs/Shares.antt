@@ -2,6 +2,7 @@
 use Rattle.std.specs.Prelude.{◌≡◌, ℕ, ◌+◌, ◌<◌, List, [], ◌∷◌, ◌++◌, length}
 use Rattle.std.specs.List.{range_with_len}
 use Rattle.gd_desk.specs.declared.desk.Desk.{Desk}
+use Rattle.gd_machine.specs.Day.{Day}
 use Rattle.gd_office_part.specs.declared.kept.Receipt.{Receipt}
 use Rattle.gd_office_part.specs.declared.threads.Phase.{Phase}
 use Rattle.gd_office_end.specs.declared.held.Held.{Held}
@@ -25,15 +26,15 @@ share_of [] k = nothing
 share_of (o ∷ os) k = plus (share_in o.first o.phase o.lists o.desks k) (share_of os k)
 
 -- All that a run gave is held, by slot.
-abbrev pub Holds : ℕ → Held → List Outcome → Type 0
+abbrev pub Holds : {J : Type 0} → ℕ → Held J → List Outcome → Type 0
 Holds slots held os = IsOf slots held × ((k : ℕ) → k < slots → share_at held k ≡ share_of os k)
 
 -- The rows tell a run of these phases, and all that it gave is held.
-abbrev pub HoldsRun : ℕ → List Phase → List Reply → Held → Type 0
-HoldsRun slots phases rows held = (os : List Outcome) × IsRun slots phases os × (rows ≡ run_rows os) × Holds slots held os
+abbrev pub HoldsRun : {J : Type 0} → List Day → ℕ → List Phase → List Reply → Held J → Type 0
+HoldsRun days slots phases rows held = (os : List Outcome) × IsRun days slots phases os × (rows ≡ run_rows os) × Holds slots held os
 
 -- What a phase gave is told behind the rows, and held.
-abbrev pub Adds : ℕ → ℕ → Phase → List Reply → Held → List Reply → Held → Type 0
-Adds slots first p rows held after new =
-    (lists : List (List Receipt)) × (desks : List Desk) × Gives slots p lists desks
+abbrev pub Adds : {J : Type 0} → List Day → ℕ → ℕ → Phase → List Reply → Held J → List Reply → Held J → Type 0
+Adds days slots first p rows held after new =
+    (lists : List (List Receipt)) × (desks : List Desk) × Gives days slots p lists desks
     × (after ≡ rows ++ phase_rows first lists desks) × IsOf slots new × Gains slots held new (share_in first p lists desks)

@@ -1,8 +1,9 @@
 //! The desks of a phase.
 
-ghost use Rattle.std.specs.Prelude.{◌≡◌, ◌+◌, ◌≤◌, ◌^◌, ◌++◌, ℕ, IfOk, OnOk, vec_len, length as len_of};
+ghost use Rattle.std.specs.Prelude.{List, ◌≡◌, ◌+◌, ◌≤◌, ◌^◌, ◌++◌, ◌∷◌, [], ℕ, IfOk, OnOk, vec_len, length as len_of};
 ghost use Rattle.std.specs.List.{All};
-ghost use Rattle.gd_desk.specs.Desks.{IsDesk};
+ghost use Rattle.gd_desk.specs.Desks.{AreTried, AreDesks};
+ghost use Rattle.gd_machine.specs.Day.{Day};
 ghost use Rattle.gd_office_end.specs.Holding.{IsOf, Gains};
 ghost use Rattle.gd_office_replies.specs.Desks.{IsEndShaped};
 ghost use Rattle.gd_office_run.specs.Runs as spec;
@@ -11,19 +12,16 @@ ghost use Rattle.gd_office_run.specs.Shares as shares;
 use crate::fault::RunFault;
 use gd_desk::{Desk, DeskFault};
 use gd_office_end::Held;
+use gd_office_part::Days;
 use gd_office_replies::push_desk;
 use gd_replies::Reply;
-use gd_units::Moment;
 use std::alloc::{AllocError, Global};
 
-/// Adds a desk of this moment, where there is memory for it.
-fn keep(desks: &mut Vec<Desk>, moment: &Moment, desk: Desk) -> Result<(), AllocError>
-    requires before { All (IsDesk moment.now) desks.old.items }
-    requires desk { IsDesk moment.now desk }
-    ensures each { OnOk result (All (IsDesk moment.now) desks.new.items) }
+/// Adds a desk, where there is memory for it.
+fn keep(desks: &mut Vec<Desk>, desk: Desk) -> Result<(), AllocError>
+    ensures items { OnOk result (desks.new.items ≡ desks.old.items ++ desk ∷ []) }
     ensures len { OnOk result (vec_len desks.new ≡ vec_len desks.old + 1) }
 {
-    let _ = moment;
     desks.push(desk)?;
     Ok(())
 }
@@ -31,16 +29,16 @@ fn keep(desks: &mut Vec<Desk>, moment: &Moment, desk: Desk) -> Result<(), AllocE
 /// The desks of all slots, where each slot has one.
 pub(crate) fn desks_of(
     alloc: Global,
-    moment: &Moment,
     given: Vec<Result<Desk, DeskFault>>,
 ) -> Result<Vec<Desk>, RunFault>
-    requires { All (λ desk. IfOk desk (IsDesk moment.now)) given.items }
-    ensures each { IfOk result (λ desks. All (IsDesk moment.now) desks.items) }
+    ensures each { IfOk result (λ desks. (days : List Day) (moment : ℕ)
+        → AreTried days moment given.items → AreDesks days moment desks.items) }
     ensures len { IfOk result (λ desks. vec_len desks ≡ vec_len given) }
 {
     let mut desks = Vec::with_capacity(alloc, given.len())?;
     for desk in given {
-        keep(&mut desks, moment, desk?)?;
+        let desk = desk?;
+        keep(&mut desks, desk)?;
     }
     Ok(desks)
 }
@@ -55,18 +53,16 @@ fn push_one(alloc: Global, rows: &mut Vec<Reply>, slot: u32, desk: &Desk) -> Res
     push_desk(alloc, rows, slot, &desk.froze, question, closed)
 }
 
-/// Appends the rows of the desks of a moment, one for each slot, in order.
+/// Appends the rows of desks, one for each slot, in order.
 pub(crate) fn push_desks(
     alloc: Global,
     rows: &mut Vec<Reply>,
-    moment: &Moment,
     desks: &[Desk],
 ) -> Result<(), AllocError>
     requires few { len_of desks.now ≤ 2 ^ 31 }
-    requires each { All (IsDesk moment.now) desks.now }
+    requires each { All (λ desk. IsEndShaped desk.question desk.closed) desks.now }
     ensures { OnOk result (rows.new.items ≡ rows.old.items ++ spec.desks_rows 1 desks.now) }
 {
-    let _ = moment;
     for at in 0..desks.len() {
         push_one(alloc, rows, at as u32 + 1, &desks[at])?;
     }
@@ -74,7 +70,10 @@ pub(crate) fn push_desks(
 }
 
 /// Holds the receipts of the desks, one for each slot, in order.
-pub(crate) fn hold_desks(held: &mut Held<'_>, desks: Vec<Desk>) -> Result<(), AllocError>
+pub(crate) fn hold_desks<J: Days>(
+    held: &mut Held<'_, J>,
+    desks: Vec<Desk>,
+) -> Result<(), AllocError>
     ensures { (slots : ℕ) → IsOf slots held.old → OnOk result
         (IsOf slots held.new × Gains slots held.old held.new (shares.of_desks 0 desks.items)) }
 {

@@ -5,14 +5,14 @@ ghost use Rattle.std.specs.List.{list_all};
 ghost use Rattle.gd_office_end.specs.Holding.{IsOf};
 ghost use Rattle.gd_office_run.specs.Runs as spec;
 ghost use Rattle.gd_office_run.specs.Shares as shares;
-ghost use Rattle.gd_office_run.specs.Told as spec_told;
+ghost use Rattle.gd_office_run.specs.RunRows as spec_told;
 
 use crate::fault::RunFault;
 use crate::phase::{hold, rows_of, run_phase};
 use gd_desk::Gate;
 use gd_office::Office;
 use gd_office_end::{End, Held, end_slots};
-use gd_office_part::Phase;
+use gd_office_part::{Days, Phase};
 use gd_replies::Reply;
 use std::alloc::{AllocError, Global};
 use std::sync::Wait;
@@ -28,44 +28,44 @@ fn next_number(first: u64, phase: &Phase) -> Option<u64>
 }
 
 /// Runs a phase whose first session has this number, tells it, and holds what it gave.
-fn take_phase<'o, R: Threads + Wait + Clock + Sync, G: Gate + Sync>(
+fn take_phase<'o, R: Threads + Wait + Clock + Sync, G: Gate + Sync, J: Days + Send + Sync>(
     rt: &R,
     alloc: Global,
-    office: &'o Office,
+    office: &'o Office<J>,
     gate: &G,
-    held: &mut Held<'o>,
+    held: &mut Held<'o, J>,
     first: u64,
     phase: &Phase,
     rows: &mut Vec<Reply>,
 ) -> Result<(), RunFault>
     requires first { first ≤ 2 ^ 62 }
     requires held { IsOf (len_of office.now.slots.items) held.old }
-    ensures ok { OnOk result (shares.Adds (len_of office.now.slots.items) first phase.now
+    ensures ok { OnOk result (shares.Adds J.days (len_of office.now.slots.items) first phase.now
         rows.old.items held.old rows.new.items held.new) }
     ensures err { OnErr result (rows.new.items ≡ rows.old.items) }
 {
     let given = run_phase(rt, alloc, office, phase, gate)?;
-    let mut told = rows_of(alloc, first, &phase.moment, &given)?;
+    let mut told = rows_of(alloc, first, &given)?;
     hold(alloc, held, first, phase, given)?;
     rows.append(&mut told)?;
     Ok(())
 }
 
 /// Runs phases in order. Where that fails, the rows are those of the first phases.
-fn run_phases<'o, R: Threads + Wait + Clock + Sync, G: Gate + Sync>(
+fn run_phases<'o, R: Threads + Wait + Clock + Sync, G: Gate + Sync, J: Days + Send + Sync>(
     rt: &R,
     alloc: Global,
-    office: &'o Office,
+    office: &'o Office<J>,
     phases: &[Phase],
     gate: &G,
-    held: &mut Held<'o>,
+    held: &mut Held<'o, J>,
     rows: &mut Vec<Reply>,
 ) -> Result<(), RunFault>
     requires held { shares.Holds (len_of office.now.slots.items) held.old [] }
     requires empty { rows.old.items ≡ [] }
-    ensures ok { OnOk result (shares.HoldsRun (len_of office.now.slots.items) phases.now
+    ensures ok { OnOk result (shares.HoldsRun J.days (len_of office.now.slots.items) phases.now
         rows.new.items held.new) }
-    ensures err { OnErr result (spec_told.EndsEarly (len_of office.now.slots.items) phases.now
+    ensures err { OnErr result (spec_told.EndsEarly J.days (len_of office.now.slots.items) phases.now
         rows.new.items) }
 {
     let mut first: u64 = 1;
@@ -123,18 +123,18 @@ fn all_reconciled(ends: &[End]) -> bool
 }
 
 /// Ends the slots of a run that is told and held, and tells that behind it. Answers whether all slots are reconciled.
-fn end_run<'o, R: Wait>(
+fn end_run<'o, R: Wait, J: Days>(
     rt: &R,
     alloc: Global,
-    office: &'o Office,
+    office: &'o Office<J>,
     phases: &[Phase],
-    held: Held<'o>,
+    held: Held<'o, J>,
     rows: &mut Vec<Reply>,
 ) -> Result<bool, RunFault>
-    requires { shares.HoldsRun (len_of office.now.slots.items) phases.now rows.old.items held }
-    ensures ok { IfOk result (spec_told.TellsRun (len_of office.now.slots.items) phases.now
+    requires { shares.HoldsRun J.days (len_of office.now.slots.items) phases.now rows.old.items held }
+    ensures ok { IfOk result (spec_told.TellsRun J.days (len_of office.now.slots.items) phases.now
         rows.new.items) }
-    ensures err { OnErr result (spec_told.EndsEarly (len_of office.now.slots.items) phases.now
+    ensures err { OnErr result (spec_told.EndsEarly J.days (len_of office.now.slots.items) phases.now
         rows.new.items) }
 {
     let _ = phases;
@@ -153,18 +153,18 @@ fn end_run<'o, R: Wait>(
 ///
 /// `NoThread`, `TooMany` or `OutOfMemory`, by what failed first. Then `told` has the rows of the first phases, each of them
 /// whole. What was accepted stands.
-pub fn run<R: Threads + Wait + Clock + Sync, G: Gate + Sync>(
+pub fn run<R: Threads + Wait + Clock + Sync, G: Gate + Sync, J: Days + Send + Sync>(
     rt: &R,
     alloc: Global,
-    office: &Office,
+    office: &Office<J>,
     phases: &[Phase],
     gate: &G,
     told: &mut Vec<Reply>,
 ) -> Result<bool, RunFault>
     requires { told.old.items ≡ [] }
-    ensures ok { IfOk result (spec_told.TellsRun (len_of office.now.slots.items) phases.now
+    ensures ok { IfOk result (spec_told.TellsRun J.days (len_of office.now.slots.items) phases.now
         told.new.items) }
-    ensures err { OnErr result (spec_told.EndsEarly (len_of office.now.slots.items) phases.now
+    ensures err { OnErr result (spec_told.EndsEarly J.days (len_of office.now.slots.items) phases.now
         told.new.items) }
 {
     let mut held = Held::new(alloc, office.slots().len())?;

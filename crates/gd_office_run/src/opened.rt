@@ -5,16 +5,16 @@ ghost use Rattle.gd_office_run.specs.Runs as spec;
 
 use crate::fault::RunFault;
 use gd_office::Office;
-use gd_office_part::{OfficeFault, Session, SessionRows};
+use gd_office_part::{Days, OfficeFault, Session, SessionRows};
 use std::alloc::Global;
 use std::sync::Wait;
 
 /// Opens a session for these rows, of which nothing is accepted yet.
-fn open<'o, R: Wait>(
+fn open<'o, R: Wait, J: Days>(
     rt: &R,
-    office: &'o Office,
+    office: &'o Office<J>,
     rows: &SessionRows,
-) -> Result<Session<'o>, RunFault>
+) -> Result<Session<'o, J>, RunFault>
     ensures { IfOk result (λ session. spec.opened session ≡ spec.asked rows.now) }
 {
     let Ok(slot) = u32::try_from(rows.slot) else {
@@ -30,12 +30,12 @@ fn open<'o, R: Wait>(
 }
 
 /// Opens a session for each of these rows, of which nothing is accepted yet.
-pub(crate) fn open_all<'o, R: Wait>(
+pub(crate) fn open_all<'o, R: Wait, J: Days>(
     rt: &R,
     alloc: Global,
-    office: &'o Office,
+    office: &'o Office<J>,
     rows: &[SessionRows],
-) -> Result<Vec<Session<'o>>, RunFault>
+) -> Result<Vec<Session<'o, J>>, RunFault>
     ensures { IfOk result (λ sessions. map spec.opened sessions.items ≡ map spec.asked rows.now) }
 {
     let mut sessions = Vec::with_capacity(alloc, rows.len())?;

@@ -2,8 +2,8 @@
 
 ghost use Rattle.std.specs.Prelude.{◌≡◌, ◌≤◌, ◌^◌, ℕ, IfOk, OnOk, map, vec_len, length as len_of};
 ghost use Rattle.std.specs.List.{All, range_with_len};
-ghost use Rattle.gd_desk.specs.Desks.{IsDesk};
 ghost use Rattle.gd_office_part.specs.Sending.{lists_of};
+ghost use Rattle.gd_office_replies.specs.Desks.{IsEndShaped};
 ghost use Rattle.gd_office_run.specs.Runs as spec;
 ghost use Rattle.gd_office_run.specs.Shares as shares;
 ghost use Rattle.gd_office_end.specs.Holding.{IsOf, Gains};
@@ -14,10 +14,9 @@ use crate::opened::open_all;
 use gd_desk::{Desk, Gate, desk_round};
 use gd_office::Office;
 use gd_office_end::Held;
-use gd_office_part::{Phase, Receipt, Session, send};
+use gd_office_part::{Days, Phase, Receipt, Session, send};
 use gd_office_replies::push_sessions;
 use gd_replies::Reply;
-use gd_units::Moment;
 use std::alloc::{AllocError, Global};
 use std::sync::Wait;
 use std::thread::Threads;
@@ -25,21 +24,26 @@ use std::time::Clock;
 
 /// What a phase gave: its sessions, the receipts of each, and the desks of the slots.
 #[derive(Drop)]
-pub(crate) struct Given<'o> {
-    pub(crate) sessions: Vec<Session<'o>>,
+pub(crate) struct Given<'o, J: Days> {
+    pub(crate) sessions: Vec<Session<'o, J>>,
     pub(crate) lists: Vec<Vec<Receipt>>,
     pub(crate) desks: Vec<Desk>,
 }
 
 /// Makes the calls of a phase's sessions, and lets the desks go round.
-pub(crate) fn run_phase<'o, R: Threads + Wait + Clock + Sync, G: Gate + Sync>(
+pub(crate) fn run_phase<
+    'o,
+    R: Threads + Wait + Clock + Sync,
+    G: Gate + Sync,
+    J: Days + Send + Sync,
+>(
     rt: &R,
     alloc: Global,
-    office: &'o Office,
+    office: &'o Office<J>,
     phase: &Phase,
     gate: &G,
-) -> Result<Given<'o>, RunFault>
-    ensures gives { IfOk result (λ given. spec.Gives (len_of office.now.slots.items) phase.now
+) -> Result<Given<'o, J>, RunFault>
+    ensures gives { IfOk result (λ given. spec.Gives J.days (len_of office.now.slots.items) phase.now
         (lists_of given.lists.items) given.desks.items) }
     ensures counted { IfOk result (λ given. map (λ s. s.numbers) given.sessions.items
         ≡ spec.counts_of (lists_of given.lists.items)) }
@@ -48,7 +52,7 @@ pub(crate) fn run_phase<'o, R: Threads + Wait + Clock + Sync, G: Gate + Sync>(
     let mut sessions = open_all(rt, alloc, office, rows)?;
     let lists = send(rt, alloc, office.slots(), sessions.as_mut_slice(), rows)?;
     let given = desk_round(rt, alloc, phase.moment, office, gate)?;
-    let desks = desks_of(alloc, &phase.moment, given)?;
+    let desks = desks_of(alloc, given)?;
     Ok(Given {
         sessions,
         lists,
@@ -57,21 +61,20 @@ pub(crate) fn run_phase<'o, R: Threads + Wait + Clock + Sync, G: Gate + Sync>(
 }
 
 /// The rows that tell what a phase gave, whose first session has this number.
-pub(crate) fn rows_of(
+pub(crate) fn rows_of<J: Days>(
     alloc: Global,
     first: u64,
-    moment: &Moment,
-    given: &Given<'_>,
+    given: &Given<'_, J>,
 ) -> Result<Vec<Reply>, AllocError>
     requires first { first ≤ 2 ^ 62 }
     requires few { vec_len given.now.desks ≤ 2 ^ 31 }
-    requires each { All (IsDesk moment.now) given.now.desks.items }
+    requires each { All (λ desk. IsEndShaped desk.question desk.closed) given.now.desks.items }
     ensures { IfOk result (λ rows. rows.items
         ≡ spec.phase_rows first (lists_of given.now.lists.items) given.now.desks.items) }
 {
     let mut rows = Vec::new(alloc);
     push_sessions(&mut rows, first, given.lists.as_slice())?;
-    push_desks(alloc, &mut rows, moment, given.desks.as_slice())?;
+    push_desks(alloc, &mut rows, given.desks.as_slice())?;
     Ok(rows)
 }
 
@@ -88,12 +91,12 @@ fn numbers_from(alloc: Global, first: u64, count: usize) -> Result<Vec<u64>, All
 }
 
 /// Holds what a phase gave, whose first session has this number.
-pub(crate) fn hold<'o>(
+pub(crate) fn hold<'o, J: Days>(
     alloc: Global,
-    held: &mut Held<'o>,
+    held: &mut Held<'o, J>,
     first: u64,
     phase: &Phase,
-    given: Given<'o>,
+    given: Given<'o, J>,
 ) -> Result<(), AllocError>
     requires first { first ≤ 2 ^ 62 }
     requires counted { map (λ s. s.numbers) given.sessions.items

@@ -2,9 +2,10 @@
 //! proved without their histories.
 
 use crate::day::{NOMINATED, at, dth, keep, line, name};
+use crate::types::{Office, Session};
 use gd_book::{Refusal, Reply};
-use gd_office::{CloseFault, Office, ReconcileFault, close};
-use gd_office_part::{Receipt, Session, Told};
+use gd_office::{CloseFault, ReconcileFault, close};
+use gd_office_part::{Receipt, Told};
 use std::alloc::Global;
 use std::process::Abort;
 use std::sync::Wait;

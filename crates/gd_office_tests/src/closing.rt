@@ -2,8 +2,9 @@
 
 use crate::calls::{closes, reconciles, refused, sessions};
 use crate::day::{keep, name, office};
-use gd_office::{CloseFault, Office, ReconcileFault};
-use gd_office_part::{OfficeFault, Session};
+use crate::types::{Office, Session};
+use gd_office::{CloseFault, ReconcileFault};
+use gd_office_part::OfficeFault;
 use std::alloc::Global;
 use std::process::Abort;
 use std::sync::Wait;

@@ -1,11 +1,11 @@
 //! An office of books of one gas day, each on one segment S1 from A to B of 100, with a receipt point R1 at A and a delivery
 //! point D1 at B.
 
+use crate::types::Office;
 use gd_book::Book;
 use gd_calendar::{Calendar, GasDay};
 use gd_contracts::{Contract, Contracts, Service};
 use gd_lines::LineKey;
-use gd_office::Office;
 use gd_system::{Kind, System, SystemBuilder};
 use gd_units::{Band, Dth, Moment, Name};
 use jiff::civil::date;

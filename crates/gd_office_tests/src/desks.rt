@@ -2,8 +2,8 @@
 
 use crate::calls::{Said, says};
 use crate::day::{CONFIRMED, at, keep};
+use crate::types::Office;
 use gd_desk::{Desk, DeskFault, Gate, desk_round};
-use gd_office::Office;
 use gd_office_part::Receipt;
 use std::alloc::Global;
 use std::process::Abort;

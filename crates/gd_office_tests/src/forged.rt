@@ -3,8 +3,9 @@
 use crate::calls::{reconciles, session};
 use crate::day::{NOMINATED, at, dth, keep, line, office};
 use crate::receipts::misfit;
-use gd_office::{Office, ReconcileFault};
-use gd_office_part::{Receipt, Session};
+use crate::types::{Office, Session};
+use gd_office::ReconcileFault;
+use gd_office_part::Receipt;
 use gd_system::Element;
 use gd_units::End;
 use std::alloc::Global;

@@ -3,12 +3,12 @@
 use crate::calls::{Said, nominate, reconciles, session};
 use crate::day::{NOMINATED, at, dth, line, name, office};
 use crate::desks::{round, told_by};
+use crate::types::{Office, Slot};
 use gd_board::Board;
 use gd_book::{Refusal, Reply};
 use gd_desk::Gate;
 use gd_lines::LineKey;
-use gd_office::Office;
-use gd_office_part::{Call, Receipt, SessionRows, Slot, send};
+use gd_office_part::{Call, Receipt, SessionRows, send};
 use gd_units::{CycleNo, Dth, Moment, Name};
 use std::alloc::Global;
 use std::process::Abort;
@@ -199,7 +199,7 @@ fn desks_of_two_books(rt: HostRuntime) {
 
 /// Shows that a book has three events, of which the third is its only publish.
 fn published_once(rt: &(impl Abort + Wait), slot: &Slot) {
-    let kept = slot.kept().lock(rt);
+    let kept = slot.lock(rt);
     let history = kept.book().history();
     assert_eq!(rt; history.len(), 3);
     for (at, event) in history.iter().enumerate() {

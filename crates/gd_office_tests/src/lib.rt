@@ -20,3 +20,5 @@ mod notes;
 mod receipts;
 #[cfg(test)]
 mod threads;
+#[cfg(test)]
+mod types;

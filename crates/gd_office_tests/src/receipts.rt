@@ -2,7 +2,8 @@
 
 use crate::calls::{nominate_all, reconciles, session};
 use crate::day::{keep, office};
-use gd_office::{Office, ReconcileFault};
+use crate::types::Office;
+use gd_office::ReconcileFault;
 use gd_office_part::Receipt;
 use gd_reconcile::Mismatch;
 use std::alloc::Global;

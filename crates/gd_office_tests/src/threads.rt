@@ -3,9 +3,10 @@
 use crate::calls::{Said, closes, nominate_all, reconciles, refused, sessions};
 use crate::day::{keep, office};
 use crate::desks::{round, told_by};
+use crate::types::{Office, Session};
 use gd_desk::Open;
-use gd_office::{CloseFault, Office};
-use gd_office_part::{Receipt, Session};
+use gd_office::CloseFault;
+use gd_office_part::Receipt;
 use std::alloc::Global;
 use std::process::Abort;
 use std::sync::Wait;

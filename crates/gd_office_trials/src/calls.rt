@@ -3,9 +3,9 @@
 use crate::held::Receipts;
 use crate::opening::{Fault, dth, line};
 use crate::rows::tell;
+use crate::types::{Office, Session};
 use gd_book::Refusal;
-use gd_office::Office;
-use gd_office_part::{Receipt, Session, Told};
+use gd_office_part::{Receipt, Told};
 use gd_system::Element;
 use gd_units::{End, Moment};
 use std::sync::Wait;
@@ -96,8 +96,7 @@ fn ask(
     let own = receipts.get_mut(place).ok_or(Fault::Unmade)?;
     let receipt = make(rt, session, moment, call)?;
     let refusal = refusal(&receipt);
-    own.keep(receipt)?;
-    Ok(refusal)
+    own.keep(receipt).map(|()| refusal)
 }
 
 /// The session of a place makes a call, once more where it finds no memory. The row of a call that is refused begins with the

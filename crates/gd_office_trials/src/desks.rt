@@ -3,9 +3,9 @@
 use crate::held::Receipts;
 use crate::opening::Fault;
 use crate::rows::tell;
+use crate::types::{Office, Session};
 use gd_desk::{Desk, DeskFault, Open, desk_round};
-use gd_office::Office;
-use gd_office_part::Session;
+use gd_office_part::Receipt;
 use gd_units::Moment;
 use std::alloc::Global;
 use std::sync::Wait;
@@ -21,14 +21,27 @@ enum Lack {
     Desk(DeskFault),
 }
 
+/// Keeps the receipt of a freeze, and that of what closed the question, if there was one.
+fn keep_both(own: &mut Receipts, froze: Receipt, closed: Option<Receipt>) -> Result<(), Fault> {
+    let kept = own.keep(froze);
+    match closed {
+        Some(closed) => kept.and(own.keep(closed)),
+        None => kept,
+    }
+}
+
 /// Keeps the receipts of a desk, if there is one.
 fn keep_desk(own: &mut Receipts, desk: Result<Desk, DeskFault>) -> Result<Option<Lack>, Fault> {
     match desk {
-        Ok(Desk { froze, closed, .. }) => {
-            own.keep(froze)?;
-            if let Some(closed) = closed {
-                own.keep(closed)?;
-            }
+        Ok(
+            Desk {
+                froze,
+                closed,
+                question,
+            },
+        ) => {
+            drop(question);
+            keep_both(own, froze, closed)?;
             Ok(None)
         }
         Err(fault) => Ok(Some(Lack::Desk(fault))),
@@ -41,8 +54,13 @@ fn keep_at(
     place: usize,
     desk: Result<Desk, DeskFault>,
 ) -> Result<Option<Lack>, Fault> {
-    let own = receipts.get_mut(place).ok_or(Fault::Unmade)?;
-    keep_desk(own, desk)
+    match receipts.get_mut(place) {
+        Some(own) => keep_desk(own, desk),
+        None => {
+            drop(desk);
+            Err(Fault::Unmade)
+        }
+    }
 }
 
 /// Keeps the receipts of all desks, and answers which fault the last slot without one has.

@@ -3,8 +3,8 @@
 use crate::held::{Receipts, keep, room};
 use crate::opening::Fault;
 use crate::rows::tell;
-use gd_office::{Office, ReconcileFault, close};
-use gd_office_part::Session;
+use crate::types::{Office, Session};
+use gd_office::{ReconcileFault, close};
 use std::alloc::Global;
 use std::sync::Wait;
 
@@ -57,8 +57,21 @@ fn close_in<'o>(
 ) -> Result<(), Fault> {
     match close(rt, office, slot, sessions) {
         Ok(_) => Ok(()),
-        Err(_) => Err(Fault::Unforeseen),
+        Err(refused) => {
+            drop(refused);
+            Err(Fault::Unforeseen)
+        }
     }
+}
+
+/// Closes the sessions of the first slot.
+fn close_first<'o>(
+    rt: &(impl Wait + Print),
+    office: &'o Office,
+    sessions: Vec<Session<'o>>,
+) -> Result<(), Fault> {
+    close_in(rt, office, 1, sessions)?;
+    tell(rt, "close", office, &[])
 }
 
 /// Closes both sessions, each in a list of its own.
@@ -70,11 +83,17 @@ pub(crate) fn close_both<'o>(
 ) -> Result<(), Fault> {
     let mut first = sessions;
     let mut second = room(alloc, 1);
-    if let Some(session) = first.pop() {
-        keep(&mut second, session)?;
+    let kept = match first.pop() {
+        Some(session) => keep(&mut second, session),
+        None => Ok(()),
+    };
+    let closed = close_first(rt, office, first);
+    match kept.and(closed) {
+        Ok(()) => close_in(rt, office, 2, second)?,
+        Err(fault) => {
+            drop(second);
+            return Err(fault);
+        }
     }
-    close_in(rt, office, 1, first)?;
-    tell(rt, "close", office, &[])?;
-    close_in(rt, office, 2, second)?;
     tell(rt, "close", office, &[])
 }

@@ -2,8 +2,8 @@
 
 use crate::opening::{Fault, PARTY, name};
 use crate::rows::tell;
-use gd_office::Office;
-use gd_office_part::{Receipt, Session, Slot};
+use crate::types::{Office, Session, Slot};
+use gd_office_part::Receipt;
 use gd_units::Name;
 use std::alloc::Global;
 use std::sync::Wait;
@@ -21,7 +21,13 @@ pub(crate) struct Receipts {
 impl Receipts {
     /// Keeps one more.
     pub(crate) fn keep(&mut self, receipt: Receipt) -> Result<(), Fault> {
-        self.lists[0].push(receipt).map_err(|_| Fault::Unmade)
+        match self.lists[0].push(receipt) {
+            Ok(()) => Ok(()),
+            Err(refused) => {
+                drop(refused);
+                Err(Fault::Unmade)
+            }
+        }
     }
 }
 
@@ -41,8 +47,13 @@ fn add_lists(alloc: Global, receipts: &mut Vec<Receipts>, slots: &[Slot]) -> Res
 pub(crate) fn empty_receipts(alloc: Global, office: &Office) -> Result<Vec<Receipts>, Fault> {
     let slots = office.slots();
     let mut receipts = room(alloc, slots.len());
-    add_lists(alloc, &mut receipts, slots)?;
-    Ok(receipts)
+    match add_lists(alloc, &mut receipts, slots) {
+        Ok(()) => Ok(receipts),
+        Err(fault) => {
+            drop(receipts);
+            Err(fault)
+        }
+    }
 }
 
 /// Room for so many items, asked for once more where there is no memory for it.
@@ -56,10 +67,12 @@ pub(crate) fn room<T: Drop>(alloc: Global, count: usize) -> Vec<T> {
 
 /// Adds an item, for which there is room.
 pub(crate) fn keep<T: Drop>(items: &mut Vec<T>, item: T) -> Result<(), Fault> {
-    if items.push(item).is_ok() {
-        Ok(())
-    } else {
-        Err(Fault::Unmade)
+    match items.push(item) {
+        Ok(()) => Ok(()),
+        Err(refused) => {
+            drop(refused);
+            Err(Fault::Unmade)
+        }
     }
 }
 

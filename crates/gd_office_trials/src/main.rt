@@ -19,6 +19,7 @@ mod held;
 mod office;
 mod opening;
 mod rows;
+mod types;
 
 use crate::opening::Fault;
 use std::alloc::Global;

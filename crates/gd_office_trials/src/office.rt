@@ -6,9 +6,9 @@ use crate::ends::{close_both, reconcile_all};
 use crate::held::{Receipts, empty_receipts, open_all, room};
 use crate::opening::{Fault, at, books};
 use crate::rows::tell;
+use crate::types::{Office, Session};
 use gd_book::Book;
-use gd_office::{Office, OpenFault};
-use gd_office_part::Session;
+use gd_office::OpenFault;
 use gd_system::Element;
 use gd_units::{End, Moment};
 use std::alloc::Global;
@@ -88,13 +88,15 @@ fn with_sessions<'o>(
 ) -> Result<(), Fault> {
     open_all(rt, office, sessions)?;
     let mut receipts = empty_receipts(alloc, office)?;
-    steps(
+    let told = steps(
         rt,
         alloc,
         office,
         sessions.as_mut_slice(),
         receipts.as_mut_slice(),
-    )
+    );
+    drop(receipts);
+    told
 }
 
 /// Takes all steps, and closes the sessions.
@@ -105,19 +107,46 @@ fn day(
 ) -> Result<(), Fault> {
     tell(rt, "office", office, &[])?;
     let mut sessions = room(alloc, office.slots().len());
-    with_sessions(rt, alloc, office, &mut sessions)?;
-    close_both(rt, alloc, office, sessions)
+    match with_sessions(rt, alloc, office, &mut sessions) {
+        Ok(()) => close_both(rt, alloc, office, sessions),
+        Err(fault) => {
+            drop(sessions);
+            Err(fault)
+        }
+    }
+}
+
+/// An office of these books, for which there was no memory before.
+fn opened_again(rt: &impl Print, alloc: Global, books: Vec<Book>) -> Result<Office, Fault> {
+    let told = println!(rt; "OutOfMemory");
+    match Office::new(alloc, books) {
+        Ok(office) => told_of(office, told.is_ok()),
+        Err(refused) => {
+            drop(refused);
+            Err(Fault::Unforeseen)
+        }
+    }
+}
+
+/// An office, where what is to be told of it could be printed.
+fn told_of(office: Office, told: bool) -> Result<Office, Fault> {
+    if told {
+        Ok(office)
+    } else {
+        drop(office);
+        Err(Fault::Untold)
+    }
 }
 
 /// An office of these books, made once more of what it hands back where it finds no memory.
 fn opened(rt: &impl Print, alloc: Global, books: Vec<Book>) -> Result<Office, Fault> {
     match Office::new(alloc, books) {
         Ok(office) => Ok(office),
-        Err((OpenFault::OutOfMemory, back)) => {
-            println!(rt; "OutOfMemory")?;
-            Office::new(alloc, back).map_err(|_| Fault::Unforeseen)
+        Err((OpenFault::OutOfMemory, back)) => opened_again(rt, alloc, back),
+        Err(refused) => {
+            drop(refused);
+            Err(Fault::Unforeseen)
         }
-        Err(_) => Err(Fault::Unforeseen),
     }
 }
 
@@ -128,7 +157,11 @@ pub(crate) fn run(
 ) -> Result<(), Fault> {
     let books = books(alloc).or_else(|_| books(alloc))?;
     match opened(rt, alloc, books) {
-        Ok(office) => day(rt, alloc, &office),
+        Ok(office) => {
+            let told = day(rt, alloc, &office);
+            drop(office);
+            told
+        }
         Err(fault) => Err(fault),
     }
 }

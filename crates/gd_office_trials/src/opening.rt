@@ -82,10 +82,26 @@ fn add_elements(builder: &mut SystemBuilder) -> Result<(), Fault> {
     add_points(builder)
 }
 
+/// The system of a builder that has all its elements.
+fn finished(builder: SystemBuilder) -> Result<System, Fault> {
+    match builder.finish() {
+        Ok(system) => Ok(system),
+        Err(refused) => {
+            drop(refused);
+            Err(Fault::Unmade)
+        }
+    }
+}
+
 fn pipeline(alloc: Global) -> Result<System, Fault> {
     let mut builder = SystemBuilder::new(alloc);
-    add_elements(&mut builder)?;
-    builder.finish().map_err(|_| Fault::Unmade)
+    match add_elements(&mut builder) {
+        Ok(()) => finished(builder),
+        Err(fault) => {
+            drop(builder);
+            Err(fault)
+        }
+    }
 }
 
 fn add_contract(contracts: &mut Contracts) -> Result<(), Fault> {
@@ -101,21 +117,33 @@ fn add_contract(contracts: &mut Contracts) -> Result<(), Fault> {
 
 fn contracts(alloc: Global) -> Result<Contracts, Fault> {
     let mut contracts = Contracts::new(alloc, pipeline(alloc)?);
-    add_contract(&mut contracts)?;
-    Ok(contracts)
+    match add_contract(&mut contracts) {
+        Ok(()) => Ok(contracts),
+        Err(fault) => {
+            drop(contracts);
+            Err(fault)
+        }
+    }
 }
 
 fn calendar(alloc: Global) -> Result<Calendar, Fault> {
     let day = GasDay::new(date(2026, 3, 8)).map_err(|_| Fault::Unmade)?;
     let zone = TimeZone::posix("CST6CDT,M3.2.0,M11.1.0").map_err(|_| Fault::Unmade)?;
-    Calendar::new(alloc, day, &zone).map_err(|_| Fault::Unmade)
+    let calendar = Calendar::new(alloc, day, &zone);
+    drop(zone);
+    calendar.map_err(|_| Fault::Unmade)
 }
 
 /// What a book opens with, but for its name and the lines that are carried over.
 fn opening(alloc: Global) -> Result<(Contracts, Calendar), Fault> {
     let calendar = calendar(alloc)?;
-    let contracts = contracts(alloc)?;
-    Ok((contracts, calendar))
+    match contracts(alloc) {
+        Ok(contracts) => Ok((contracts, calendar)),
+        Err(fault) => {
+            drop(calendar);
+            Err(fault)
+        }
+    }
 }
 
 /// A book of this name of the gas day 2026-03-08, with a capacity of 100 of S1 and a firm contract from R1 to D1.
@@ -128,14 +156,30 @@ fn book(alloc: Global, text: &str) -> Result<Book, Fault> {
 
 fn add_book(alloc: Global, books: &mut Vec<Book>, text: &str) -> Result<(), Fault> {
     let book = book(alloc, text)?;
-    books.push(book).map_err(|_| Fault::Unmade)
+    match books.push(book) {
+        Ok(()) => Ok(()),
+        Err(refused) => {
+            drop(refused);
+            Err(Fault::Unmade)
+        }
+    }
+}
+
+fn add_books(alloc: Global, books: &mut Vec<Book>) -> Result<(), Fault> {
+    for text in ["NORTH", "SOUTH"] {
+        add_book(alloc, books, text)?;
+    }
+    Ok(())
 }
 
 /// Two books.
 pub(crate) fn books(alloc: Global) -> Result<Vec<Book>, Fault> {
     let mut books = Vec::new(alloc);
-    for text in ["NORTH", "SOUTH"] {
-        add_book(alloc, &mut books, text)?;
+    match add_books(alloc, &mut books) {
+        Ok(()) => Ok(books),
+        Err(fault) => {
+            drop(books);
+            Err(fault)
+        }
     }
-    Ok(books)
 }

@@ -1,10 +1,9 @@
 //! Rows, which tell of each slot and then of each open session.
 
 use crate::opening::Fault;
+use crate::types::{Office, Session, Slot};
 use gd_board::Board;
 use gd_book::Book;
-use gd_office::Office;
-use gd_office_part::{Session, Slot};
 use gd_units::CycleNo;
 use std::fmt::Display;
 use std::sync::Wait;
@@ -32,7 +31,7 @@ fn told_by(book: &Book) -> (usize, u8) {
 }
 
 fn tell_slot(rt: &(impl Wait + Print), slot: &Slot) -> Result<(), Fault> {
-    let (length, frozen) = told_by(slot.kept().lock(rt).book());
+    let (length, frozen) = told_by(slot.lock(rt).book());
     let posted = posted(slot.board());
     print!(rt; " {length} {frozen} {posted}")?;
     Ok(())

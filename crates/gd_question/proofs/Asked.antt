@@ -10,7 +10,7 @@ use Rattle.gd_tree.proofs.Agree.{route_with}
 use Rattle.gd_tree.proofs.Grown.{below_or}
 use Rattle.gd_system.specs.Pipeline.{Pipeline, elements_of}
 use Rattle.gd_system.specs.Route.{element_at}
-use Rattle.gd_question.specs.Posed.{Posed, with_limit, limit_fault, capacity_fault, changed, after_capacity}
+use Rattle.gd_question.specs.Posing.{Posed, with_limit, limit_fault, capacity_fault, changed, after_capacity}
 use Rattle.gd_question.specs.Known.{limit_of}
 use Rattle.gd_question.specs.InForce.{in_force}
 use Rattle.gd_question.specs.Rows.{IsRow, line_of}

@@ -3,7 +3,7 @@ use Rattle.std.proofs.Common.{◌≡◌, ℕ, zero, suc, ◌<◌, ◌≤◌, Lis
 use Rattle.gd_rules.specs.Question.{Element}
 use Rattle.gd_rules.specs.Question.Element.{Segment, Receipt, Delivery, Pool}
 use Rattle.gd_rules.specs.Tree.{LeadsTo, Follows, IsRoute, place_of, CanSend, CanTake}
-use Rattle.gd_question.specs.Posed.{with_limit}
+use Rattle.gd_question.specs.Posing.{with_limit}
 use Rattle.gd_question.specs.InForce.{in_force}
 
 pub length-in_force : (elements : List Element) (limits : List ℕ) → length (in_force elements limits) ≡ length elements

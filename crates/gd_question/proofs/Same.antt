@@ -9,7 +9,7 @@ use Rattle.gd_system.specs.Pipeline.{Pipeline, elements_of}
 use Rattle.gd_system.specs.Route.{element_at}
 use Rattle.gd_system.specs.declared.part.Ends.{Ends}
 use Rattle.gd_system.proofs.Same.{both, same_ends, ends_decided}
-use Rattle.gd_question.specs.Posed.{Posed, with_limit}
+use Rattle.gd_question.specs.Posing.{Posed, with_limit}
 use Rattle.gd_question.specs.Known.{limit_of}
 use Rattle.gd_question.specs.InForce.{in_force}
 use Rattle.gd_question.specs.Rows.{IsRow, line_of}

@@ -3,7 +3,7 @@ use Rattle.std.specs.Prelude.{◌≡◌, ℕ, ◌+◌, ◌<◌, ◌≤◌, map, 
 use Rattle.gd_rules.specs.Limits.{most_lines}
 use Rattle.gd_system.specs.Pipeline.{elements_of}
 use Rattle.gd_system.specs.Known.{IsSystem}
-use Rattle.gd_question.specs.Posed.{Posed}
+use Rattle.gd_question.specs.Posing.{Posed}
 use Rattle.gd_question.specs.InForce.{in_force}
 use Rattle.gd_question.specs.Rows.{IsRow, line_of}
 use Rattle.gd_question.specs.declared.question.Row.{Row}

@@ -1,8 +1,8 @@
-pub mod Posed
+pub mod Posing
 pub mod Known
 pub mod Names
 pub mod InForce
 pub mod Rows
 pub mod Inside
-pub mod Placed
+pub mod Placing
 pub mod Nodes

@@ -5,7 +5,7 @@ use Rattle.gd_rules.specs.Limits.{classes}
 use Rattle.gd_system.specs.Pipeline.{Pipeline}
 use Rattle.gd_system.specs.Route.{AreEnds, element_at}
 use Rattle.gd_system.specs.declared.part.Ends.{Ends}
-use Rattle.gd_question.specs.Posed.{line_between}
+use Rattle.gd_question.specs.Posing.{line_between}
 use Rattle.gd_question.specs.Known.{limit_of}
 use Rattle.gd_question.specs.declared.question.Row.{Row}
 

@@ -1,7 +1,7 @@
 //! Questions in the making.
 
 ghost use Rattle.std.specs.Prelude.{◌≡◌, Ok, Err, IfOk, IfErr, OnOk, OnErr, ◌⊎◌};
-ghost use Rattle.gd_question.specs.Posed.{after_capacity, after_line, posed};
+ghost use Rattle.gd_question.specs.Posing.{after_capacity, after_line, posed};
 
 use crate::question::Question;
 use crate::{CapacityFault, LineFault};
@@ -17,7 +17,7 @@ pub struct QuestionBuilder {
 }
 
 impl Model for QuestionBuilder {
-    ghost use Rattle.gd_question.specs.Posed.{Posed};
+    ghost use Rattle.gd_question.specs.Posing.{Posed};
 
     ghost Value = { Posed };
 

@@ -4,8 +4,8 @@ ghost use Rattle.std.specs.Prelude.{◌≡◌, ◌↔◌, IsTrue, ◌+◌, ◌<�
 ghost use Rattle.std.specs.List.{count_by};
 ghost use Rattle.gd_rules.specs.Question.{line, element as asked_element};
 ghost use Rattle.gd_question.specs.Known.{IsKnown, limit_of};
-ghost use Rattle.gd_question.specs.Placed.{IsPlaced};
-ghost use Rattle.gd_question.specs.Posed.{with_limit, after_capacity, checked_line, with_line, capacity_fault, posed};
+ghost use Rattle.gd_question.specs.Placing.{IsPlaced};
+ghost use Rattle.gd_question.specs.Posing.{with_limit, after_capacity, checked_line, with_line, capacity_fault, posed};
 ghost use Rattle.gd_question.specs.Rows.{IsRow, ends_of_row, AreOwn};
 ghost use Rattle.gd_system.specs.Pipeline.{element_of, names_of};
 
@@ -39,7 +39,7 @@ pub struct Question {
 }
 
 impl Model for Question {
-    ghost use Rattle.gd_question.specs.Posed.{Posed};
+    ghost use Rattle.gd_question.specs.Posing.{Posed};
 
     ghost Value = { Posed };
 
@@ -115,15 +115,20 @@ impl Question {
     ) -> Result<Question, AllocError>
         ensures { IfOk result (λ question. question ≡ posed system book cycle round) }
     {
-        let capacities = capacities_of(alloc, &system)?;
-        Ok(Question {
-            system,
-            capacities,
-            rows: Vec::new(alloc),
-            book,
-            cycle,
-            round,
-        })
+        match capacities_of(alloc, &system) {
+            Ok(capacities) => Ok(Question {
+                system,
+                capacities,
+                rows: Vec::new(alloc),
+                book,
+                cycle,
+                round,
+            }),
+            Err(fault) => {
+                drop(system);
+                Err(fault)
+            }
+        }
     }
 
     /// Sets the capacity in force of a segment or a point.
@@ -198,8 +203,15 @@ impl Question {
         ensures { IfOk result (λ copy. copy ≡ self.now) }
     {
         let system = self.system.try_clone(alloc)?;
-        let capacities = Vec::from_slice(alloc, &self.capacities)?;
-        let rows = Vec::from_slice(alloc, &self.rows)?;
+        let Ok(capacities) = Vec::from_slice(alloc, &self.capacities) else {
+            drop(system);
+            return Err(AllocError);
+        };
+        let Ok(rows) = Vec::from_slice(alloc, &self.rows) else {
+            drop(system);
+            drop(capacities);
+            return Err(AllocError);
+        };
         Ok(Question {
             system,
             capacities,

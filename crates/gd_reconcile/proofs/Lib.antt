@@ -1,4 +1,4 @@
 pub mod Walks
 pub mod Queries
 pub mod Misfits
-pub mod Rows
+pub mod Examples

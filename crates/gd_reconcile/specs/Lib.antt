@@ -1,4 +1,4 @@
 pub mod Fitting
 pub mod Walking
 pub mod Answering
-pub mod Explained
+pub mod Explaining

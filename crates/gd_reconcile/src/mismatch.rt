@@ -4,7 +4,7 @@ ghost use Rattle.std.specs.Prelude.{◌≡◌, ◌⊎◌, ℕ, Some, None, IsNon
 ghost use Rattle.gd_reconcile.specs.declared.mismatch.ReceiptsFault.TheVariants as fault;
 ghost use Rattle.gd_reconcile.specs.Fitting.{Before};
 ghost use Rattle.gd_reconcile.specs.Answering.{IsBefore};
-ghost use Rattle.gd_reconcile.specs.Explained.{receipts_fault_name};
+ghost use Rattle.gd_reconcile.specs.Explaining.{receipts_fault_name};
 
 use std::alloc::AllocError;
 use std::fmt;

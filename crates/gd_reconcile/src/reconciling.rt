@@ -3,7 +3,7 @@
 ghost use Rattle.std.specs.Prelude.{IfOk, IfErr, OnOk};
 ghost use Rattle.std.specs.Option.{MatchOption};
 ghost use Rattle.gd_reconcile.specs.Fitting.{lists_of, Fit, IsFirstMisfit};
-ghost use Rattle.gd_reconcile.specs.Explained.{Explains};
+ghost use Rattle.gd_reconcile.specs.Explaining.{Explains};
 
 use crate::disorder::first_disorder;
 use crate::mismatch::{Mismatch, ReceiptsFault, first_of};

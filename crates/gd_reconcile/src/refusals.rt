@@ -101,6 +101,31 @@ fn answers(
     })
 }
 
+/// The first place of a query whose refusal is no possible answer, by a walk from the beginning of a history.
+fn least_wrong(
+    replay: &mut Replay<'_>,
+    lists: &[Vec<Receipt>],
+    queries: &[Query],
+) -> Result<Option<Mismatch>, AllocError>
+    requires begins { replay.old.at ≡ 0 }
+    requires real { All (IsQuery (len_of replay.old.history) (lists_of lists.now)) queries.now }
+    requires sorted { IsNonDecreasingBy (λ q. q.length) queries.now }
+    ensures { IfOk result (λ least. LeastWrong replay.old.day replay.old.history
+        (lists_of lists.now) queries.now (len_of queries.now) least) }
+{
+    let mut least = None;
+    for query in queries {
+        if !answers(replay, lists, *query)? {
+            let place = Mismatch {
+                list: query.list,
+                index: query.index,
+            };
+            least = Some(earlier(least, place));
+        }
+    }
+    Ok(least)
+}
+
 /// The first place of a query whose refusal is no possible answer.
 fn first_wrong(
     book: &Book,
@@ -113,17 +138,9 @@ fn first_wrong(
         queries.now (len_of queries.now) least) }
 {
     let mut replay = book.replay()?;
-    let mut least = None;
-    for query in queries {
-        if !answers(&mut replay, lists, *query)? {
-            let place = Mismatch {
-                list: query.list,
-                index: query.index,
-            };
-            least = Some(earlier(least, place));
-        }
-    }
-    Ok(least)
+    let least = least_wrong(&mut replay, lists, queries);
+    drop(replay);
+    least
 }
 
 /// The first refusal that the machine could not answer after so many events as the refusal's length tells, where the history

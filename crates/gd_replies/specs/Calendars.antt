@@ -21,8 +21,8 @@ cycle_rows moments (suc n) = cycle_rows moments n ++ cycle_row moments (n + 1) �
 -- the hours of the gas day, and how many are over where each cycle takes effect
 abbrev pub hours_row : List ℕ → Reply
 hours_row moments =
-    reply.Hours (hours moments) (gas_day.elapsed 1) (gas_day.elapsed 2) (gas_day.elapsed 3)
-    (gas_day.elapsed 4) (gas_day.elapsed 5)
+    reply.Hours (hours moments) (gas_day.hours_over 1) (gas_day.hours_over 2) (gas_day.hours_over 3)
+    (gas_day.hours_over 4) (gas_day.hours_over 5)
 
 -- the rows of a calendar
 abbrev pub calendar_rows : List ℕ → List Reply

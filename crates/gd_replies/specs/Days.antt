@@ -3,7 +3,7 @@ use Rattle.std.specs.Prelude.{◌≡◌, ℕ, ◌+◌, List, ◌∷◌, ◌++◌
 use Rattle.std.specs.List.{range_with_len}
 use Rattle.gd_rules.specs.Question.{Question, line}
 use Rattle.gd_system.specs.Pipeline.{Pipeline}
-use Rattle.gd_question.specs.Posed.{Posed}
+use Rattle.gd_question.specs.Posing.{Posed}
 use Rattle.gd_schedule.specs.declared.Broken.{Broken}
 use Rattle.gd_schedule.specs.declared.Broken.TheVariants as broken
 use Rattle.gd_certificate.specs.Checked.{Certificate}

@@ -3,11 +3,11 @@ use Rattle.std.specs.Prelude.{◌≡◌, ℕ, zero, suc, ◌+◌, ◌==◌, ◌&
 use Rattle.std.specs.Prelude.{Bool, List, [], ◌∷◌, ◌++◌, length, map, flat_map, zip, slice_get, unwrap_or}
 use Rattle.std.specs.List.{enumerate_from, range_with_len, items_where_true}
 use Rattle.gd_rules.specs.Limits.{classes}
-use Rattle.gd_rules.specs.Sum.{sum_below}
+use Rattle.gd_scale.specs.Sum.{sum_below}
 use Rattle.gd_rules.specs.Question.{Question, line}
 use Rattle.gd_rules.specs.Schedule.{class_total}
 use Rattle.gd_system.specs.Pipeline.{Pipeline, names_of}
-use Rattle.gd_question.specs.Posed.{Posed}
+use Rattle.gd_question.specs.Posing.{Posed}
 use Rattle.gd_schedule.specs.declared.Broken.{Broken}
 use Rattle.gd_schedule.specs.declared.Broken.TheVariants as broken
 use Rattle.gd_certificate.specs.Cutting.{Members}

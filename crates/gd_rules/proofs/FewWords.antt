@@ -8,16 +8,16 @@ use Rattle.std.specs.Cmp.{int_cmp_total, tied_itself}
 use Rattle.std.proofs.lemmas.List.{length-map}
 use borrow.Author.Tests.{ltb-true, eqb-true}
 use lib.IntN.{*ℤ-zero}
-use Rattle.gd_rules.specs.Sum.{sum_int}
-use Rattle.gd_rules.specs.Scale.{Scale, multiple, total_below}
+use Rattle.gd_scale.specs.Sum.{sum_int}
+use Rattle.gd_scale.specs.Scale.{Scale, multiple, total_below}
 use Rattle.gd_rules.specs.Question.{Element, Question, element, line, crossing}
 use Rattle.gd_rules.specs.Question.Element.{Segment, Receipt, Delivery, Pool}
 use Rattle.gd_rules.specs.Schedule.{load, quantity}
 use Rattle.gd_rules.specs.Spread.{tenth_of}
 use Rattle.gd_rules.specs.Priced.{IsPriced, Clears, price, crossed, margin}
-use Rattle.gd_rules.specs.Words.{words, words_order, word_fits, words_fit, first}
-use Rattle.gd_rules.proofs.Bounds.{words_multiple}
-use Rattle.gd_rules.proofs.First.{first_is, order_same, fit_same}
+use Rattle.gd_scale.specs.Words.{words, words_order, word_fits, words_fit, first}
+use Rattle.gd_scale.proofs.Bounds.{words_multiple}
+use Rattle.gd_scale.proofs.First.{first_is, order_same, fit_same}
 use Rattle.gd_rules.specs.Classes.{HasClasses, IsPricedAmong, unit_among, with_zeros}
 
 then_equal : (r : Ordering) → ordering_then r Equal ≡ r

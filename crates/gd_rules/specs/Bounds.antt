@@ -2,17 +2,17 @@
 -- Cycles (NAESB WGQ 1.3.2) count from 1: Timely, Evening, Intraday 1, 2 and 3. Quantities are dekatherms for one gas day.
 use Rattle.std.specs.Prelude.{ℕ, zero, suc, ◌+◌, ◌-◌, ◌*◌, ◌/◌, min, max, Bool, true, false, ◌==◌, ◌&&◌, nat_le, Option, Some, None, if◌then◌else◌}
 
-abbrev timely : ℕ
-timely = 1
+abbrev timely_number : ℕ
+timely_number = 1
 
-abbrev evening : ℕ
-evening = 2
+abbrev evening_number : ℕ
+evening_number = 2
 
-abbrev intraday_2 : ℕ
-intraday_2 = 4
+abbrev intraday_2_number : ℕ
+intraday_2_number = 4
 
-abbrev intraday_3 : ℕ
-intraday_3 = 5
+abbrev intraday_3_number : ℕ
+intraday_3_number = 5
 
 -- ---- the elapsed quantity (own, formula and rounding)
 
@@ -29,7 +29,7 @@ elapsed_after elapsed scheduled hours rest = elapsed + flowed (scheduled - elaps
 abbrev pub elapsed : (ℕ → ℕ) → ℕ → (ℕ → ℕ) → ℕ → ℕ
 elapsed passed day scheduled zero = 0
 elapsed passed day scheduled (suc former) =
-    if nat_le (suc former) evening then 0
+    if nat_le (suc former) evening_number then 0
     else elapsed_after (elapsed passed day scheduled former) (scheduled former) (passed (suc former) - passed former) (day - passed former)
 
 -- ---- the confirmed quantity, which is the line's ceiling (own, silence included). The responses are those of this cycle at the line's origin and at its destination.
@@ -49,7 +49,7 @@ later_confirmed nominated None dest former elapsed = former
 
 -- `former` is the schedule in effect before this cycle, at Timely the quantity carried over.
 abbrev pub confirmed : ℕ → ℕ → Option ℕ → Option ℕ → ℕ → ℕ → ℕ
-confirmed cycle nominated origin dest former elapsed = if cycle == timely then timely_confirmed nominated origin dest former else later_confirmed nominated origin dest former elapsed
+confirmed cycle nominated origin dest former elapsed = if cycle == timely_number then timely_confirmed nominated origin dest former else later_confirmed nominated origin dest former elapsed
 
 -- ---- the floor
 
@@ -60,8 +60,8 @@ is_firm class = nat_le class 3
 -- In Intraday 3 no line is bumped (NAESB WGQ 1.3.2). In Intraday 1 and 2 firm nominations go before interruptible ones that are scheduled already (18 CFR 284.12), so firm lines alone are protected; in Evening too (own). In Timely nothing is.
 abbrev pub is_protected_in : ℕ → ℕ → Bool
 is_protected_in cycle class =
-    if cycle == intraday_3 then true
-    else if nat_le evening cycle && nat_le cycle intraday_2 then is_firm class
+    if cycle == intraday_3_number then true
+    else if nat_le evening_number cycle && nat_le cycle intraday_2_number then is_firm class
     else false
 
 -- A line is not protected while it is waived (own): that can free a cycle in which no schedule is allowed.
@@ -80,4 +80,4 @@ line_floor cycle class waived elapsed former confirmed = floor (protected cycle 
 
 -- By how much a line is bumped (own): what of the schedule in effect is confirmed, less the new schedule. In Timely nothing is.
 abbrev pub bumped : ℕ → ℕ → ℕ → ℕ → ℕ
-bumped cycle former confirmed scheduled = if cycle == timely then 0 else min former confirmed - scheduled
+bumped cycle former confirmed scheduled = if cycle == timely_number then 0 else min former confirmed - scheduled

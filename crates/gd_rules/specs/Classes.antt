@@ -3,7 +3,7 @@ use Rattle.std.specs.Prelude.{◌≡◌, true, ℕ, ◌+◌, ◌<◌, ◌≤◌,
 use Rattle.gd_rules.specs.Question.{Question, line}
 use Rattle.gd_rules.specs.Schedule.{IsAllowed, class_total}
 use Rattle.gd_rules.specs.Priced.{IsPriced, price}
-use Rattle.gd_rules.specs.Words.{first, words, words_fit}
+use Rattle.gd_scale.specs.Words.{first, words, words_fit}
 use Rattle.gd_rules.specs.Limits.{most_price_word}
 
 -- Each line's class is from 1 to n.

@@ -1,6 +1,6 @@
 -- A cut: places, points and pools out of which more must flow than can (Hoffman's condition for circulations).
 use Rattle.std.specs.Prelude.{ℕ, ℤ, pos, ◌-ℤ◌, ◌<ℤ◌, Bool, not, ◌&&◌, List, length, get_or, if◌then◌else◌, false}
-use Rattle.gd_rules.specs.Sum.{sum_nat}
+use Rattle.gd_scale.specs.Sum.{sum_nat}
 use Rattle.gd_rules.specs.Question.{Element, Question, element, line}
 use Rattle.gd_rules.specs.Question.Element.{Segment, Receipt, Delivery, Pool}
 

@@ -109,8 +109,8 @@ unfoldable pub place : Time → ℕ
 place t = position_or_len (λ other. minutes other == minutes t) civil_times
 
 -- How many hours of the gas day are over when a cycle takes effect.
-abbrev pub elapsed : ℕ → ℕ
-elapsed number = get_or (0 ∷ 0 ∷ 5 ∷ 9 ∷ 13 ∷ []) (number - 1) 0
+abbrev pub hours_over : ℕ → ℕ
+hours_over number = get_or (0 ∷ 0 ∷ 5 ∷ 9 ∷ 13 ∷ []) (number - 1) 0
 
 -- The first cycle whose received time is not before the moment, or none, by the received times of cycles 1 to 5.
 abbrev pub cycle_of : List ℕ → ℕ → Option ℕ

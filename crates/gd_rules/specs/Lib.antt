@@ -1,13 +1,10 @@
 pub mod Limits
-pub mod Sum
-pub mod Scale
 pub mod Question
 pub mod Tree
 pub mod Class
 pub mod Schedule
 pub mod Spread
 pub mod Priced
-pub mod Words
 pub mod Tariff
 pub mod Units
 pub mod Cut

@@ -1,6 +1,6 @@
 -- Prices that show a schedule best (linear programming duality over an ordered group).
 use Rattle.std.specs.Prelude.{◌≡◌, ℕ, ◌+◌, ◌<◌, ℤ, pos, List, length, get_or}
-use Rattle.gd_rules.specs.Scale.{Scale, total_below, multiple, AtMost, IsAbove}
+use Rattle.gd_scale.specs.Scale.{Scale, total_below, multiple, AtMost, IsAbove}
 use Rattle.gd_rules.specs.Question.{Element, Line, Question, element, line, crossing}
 use Rattle.gd_rules.specs.Question.Element.{Segment, Receipt, Delivery, Pool}
 use Rattle.gd_rules.specs.Schedule.{quantity, load}

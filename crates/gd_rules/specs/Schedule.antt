@@ -1,6 +1,6 @@
 -- Schedules: which are allowed, and which is better by class totals (the stated tariff).
 use Rattle.std.specs.Prelude.{◌≡◌, ℕ, ◌<◌, ◌≤◌, ℤ, pos, ◌*ℤ◌, ◌≤ℤ◌, List, length, get_or, ◌==◌, if◌then◌else◌}
-use Rattle.gd_rules.specs.Sum.{sum_nat, sum_int}
+use Rattle.gd_scale.specs.Sum.{sum_nat, sum_int}
 use Rattle.gd_rules.specs.Question.{Element, Question, element, line, crossing}
 use Rattle.gd_rules.specs.Question.Element.{Segment, Receipt, Delivery, Pool}
 use Rattle.gd_rules.specs.Limits.{classes}

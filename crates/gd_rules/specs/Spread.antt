@@ -1,7 +1,7 @@
 -- The spread (own): within a class the dekatherms of a line are worth the less, the later the tenth of its ceiling in which they lie.
 -- So scarce capacity goes to a class's lines in equal shares of their ceilings, to the tenth.
 use Rattle.std.specs.Prelude.{◌≡◌, ℕ, ◌+◌, ◌*◌, ◌/◌, ◌<◌, ◌≤◌, List, length, nat_lt, ◌==◌, if◌then◌else◌, ◌⊎◌}
-use Rattle.gd_rules.specs.Sum.{sum_nat}
+use Rattle.gd_scale.specs.Sum.{sum_nat}
 use Rattle.gd_rules.specs.Question.{Line, Question, line}
 use Rattle.gd_rules.specs.Schedule.{quantity, class_total, HasBetterTotals, IsAllowed}
 use Rattle.gd_rules.specs.Limits.{classes, tenths}

@@ -60,3 +60,10 @@ pub fn intraday_3_bumps_no_line()
         → line_floor 5 class false gone former ceiling ≤ scheduled
         → bumped 5 former ceiling scheduled ≡ 0 }
 {}
+
+/// In Timely no line has a floor: nothing has flowed, and no line is protected.
+pub fn timely_has_no_floors()
+    ensures { (passed : ℕ → ℕ) (day : ℕ) (scheduled : ℕ → ℕ) (class : ℕ) (waived : Bool)
+        (former ceiling : ℕ)
+        → line_floor 1 class waived (elapsed passed day scheduled 1) former ceiling ≡ 0 }
+{}

@@ -4,16 +4,16 @@ use Rattle.std.specs.Prelude.{ℤ, pos, negsuc, ◌+ℤ◌, neg_ℤ, if◌then�
 use Rattle.std.proofs.lemmas.Bool.{cases_eq}
 use borrow.Author.Differences.{ints}
 use borrow.Author.Tests.{eqb-true, eqb-false}
-use Rattle.gd_rules.specs.Sum.{sum_int}
-use Rattle.gd_rules.specs.Scale.{repeated, multiple, less}
-use Rattle.gd_rules.specs.Words.{whole}
-use Rattle.gd_rules.proofs.Words.{whole_lawful}
+use Rattle.gd_scale.specs.Sum.{sum_int}
+use Rattle.gd_scale.specs.Scale.{repeated, multiple, less}
+use Rattle.gd_scale.specs.Words.{whole}
+use Rattle.gd_scale.proofs.Words.{whole_lawful}
 use Rattle.gd_rules.specs.Question.{Element, Question, element, line, crossing}
 use Rattle.gd_rules.specs.Question.Element.{Segment, Receipt, Delivery, Pool}
 use Rattle.gd_rules.specs.Schedule.{quantity, load}
 use Rattle.gd_rules.specs.Tree.{HasLines}
 use Rattle.gd_rules.proofs.Duality.{revenue}
-use Rattle.gd_rules.proofs.IntSums.{int_same, int_one}
+use Rattle.gd_scale.proofs.IntSums.{int_same, int_one}
 use Rattle.gd_question.specs.Nodes.{AllBring, Brings, start, stop, start_of, stop_of, end_node, anchor, carried}
 use Rattle.gd_schedule.proofs.Telescope.{line_rise}
 

@@ -5,4 +5,4 @@ pub mod Sizes
 pub mod Tenths
 pub mod Faults
 pub mod Compared
-mod Rows
+mod Examples

@@ -8,7 +8,7 @@ use lib.IntN.{pos-*ℤ-pos, negsuc-*ℤ-pos}
 use Rattle.std.proofs.Math.Nat.{mul-le-mul_left, mul-le-mul_right}
 use mir.Syntax.{w64}
 use mir.Val.{to_z, SFits}
-use Rattle.gd_rules.specs.Sum.{sum_int}
+use Rattle.gd_scale.specs.Sum.{sum_int}
 use Rattle.gd_rules.specs.Question.{Element, Line, Question, element, line, crossing, crossing_of}
 use Rattle.gd_rules.specs.Question.Element.{Segment, Receipt, Delivery, Pool}
 use Rattle.gd_rules.specs.Schedule.{quantity}

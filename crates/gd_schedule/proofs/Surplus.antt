@@ -4,11 +4,11 @@ use Rattle.std.specs.Prelude.{ℤ, pos, negsuc, neg_ℤ, ◌+ℤ◌, unsigned_ab
 use Rattle.std.proofs.lemmas.Bool.{eq-eqb, eqb-true}
 use Rattle.std.proofs.lemmas.List.{length-set, length-replicate, get_or-replicate, get_or-set_same, get_or-set_other}
 use borrow.Author.Differences.{ints, up, down}
-use Rattle.gd_rules.specs.Sum.{sum_int}
+use Rattle.gd_scale.specs.Sum.{sum_int}
 use Rattle.gd_rules.specs.Question.{Line, Question, element, line}
 use Rattle.gd_rules.specs.Schedule.{quantity}
 use Rattle.gd_rules.specs.Tree.{HasLines}
-use Rattle.gd_rules.proofs.IntSums.{int_zero, int_changed, nat_raised, nat_term}
+use Rattle.gd_scale.proofs.IntSums.{int_zero, int_changed, nat_raised, nat_term}
 use Rattle.gd_question.specs.Nodes.{AllBring, start, stop, end_node, anchor, inside_part, carried}
 use Rattle.gd_schedule.specs.Sizes.{IsSized}
 use Rattle.gd_schedule.specs.Surplus.{held, brought, through, size, IsSurplus, IsPassedOn}

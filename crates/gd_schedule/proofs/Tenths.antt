@@ -2,7 +2,7 @@
 use Rattle.std.proofs.Common.{◌≡◌, ℕ, suc, zero, ◌+◌, ◌-◌, ◌<◌, ◌≤◌, refl, sym, ap, ◌∙◌, arith, Bool, true, false, add-one}
 use Rattle.std.specs.Prelude.{if◌then◌else◌, nat_lt}
 use borrow.Author.Tests.{ltb-true, ltb-false, lt-ltb}
-use Rattle.gd_rules.specs.Sum.{sum_nat}
+use Rattle.gd_scale.specs.Sum.{sum_nat}
 use Rattle.gd_rules.specs.Spread.{tenth_of, tenth_end}
 
 test_up : (b : Bool) → (if b then 1 else 0) ≤ 1

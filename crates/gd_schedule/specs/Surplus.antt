@@ -1,6 +1,6 @@
 -- The surplus of each node: what lines bring to it, less what they take from it.
 use Rattle.std.specs.Prelude.{◌≡◌, ℕ, ◌+◌, ◌*◌, ◌<◌, ◌≤◌, ℤ, pos, ◌+ℤ◌, unsigned_abs, Bool, List, length, get_or}
-use Rattle.gd_rules.specs.Sum.{sum_nat, sum_int}
+use Rattle.gd_scale.specs.Sum.{sum_nat, sum_int}
 use Rattle.gd_rules.specs.Question.{Question, line}
 use Rattle.gd_rules.specs.Schedule.{quantity}
 use Rattle.gd_question.specs.Nodes.{start, stop, end_node, inside_part, carried}

@@ -1,7 +1,7 @@
 //! What dekatherms weigh: within a class those of a later tenth of a line's ceiling weigh more, and are worth less (own).
 
 ghost use Rattle.std.specs.Prelude.{◌≡◌, ◌≤◌, ◌+◌};
-ghost use Rattle.gd_rules.specs.Sum.{sum_nat};
+ghost use Rattle.gd_scale.specs.Sum.{sum_nat};
 ghost use Rattle.gd_rules.specs.Spread.{tenth_of, tenth_end};
 
 use gd_units::Dth;

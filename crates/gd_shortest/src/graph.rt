@@ -1,9 +1,8 @@
 //! The steps that a flow leaves room for, each with how far it is from gaining.
 
 use crate::joins::{Joins, TENTHS, arc_of};
-use gd_network::Network;
+use gd_network::{Network, Step};
 use gd_simplex::{Gains, Worth};
-use gd_walks::Step;
 use std::alloc::{AllocError, Global};
 
 /// A line's class, and the tenths, from 0, along which it can carry more and less next.

@@ -1,9 +1,8 @@
 //! The search for a shortest walk from one node to another (Dijkstra).
 
 use crate::graph::{Graph, Link};
-use gd_network::Network;
+use gd_network::{Network, Step};
 use gd_simplex::Worth;
-use gd_walks::Step;
 use std::alloc::{AllocError, Global};
 use std::collections::BinaryHeap;
 

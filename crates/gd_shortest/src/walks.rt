@@ -3,10 +3,9 @@
 use crate::graph::Graph;
 use crate::joins::{TENTHS, arc_of};
 use crate::search::Search;
-use gd_network::Network;
+use gd_network::{Network, Step};
 use gd_simplex::Worth;
 use gd_units::Class;
-use gd_walks::Step;
 use std::alloc::{AllocError, Global};
 
 /// Walks that close a line's tenth each, those first that gain most by a dekatherm: class by class, and in each tenth by

@@ -1,2 +1,2 @@
-pub mod Falls
-pub mod Solved
+pub mod PotentialFalls
+pub mod Solutions

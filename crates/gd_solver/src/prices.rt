@@ -5,8 +5,8 @@ ghost use Rattle.gd_rules.specs.Limits.{most_price_word};
 ghost use Rattle.gd_rules.specs.Priced.{price};
 ghost use Rattle.gd_question.specs.Nodes.{start, stop};
 ghost use Rattle.gd_network.specs.Potential.{ArePrices};
-ghost use Rattle.gd_rules.specs.Scale.{less};
-ghost use Rattle.gd_mincost.specs.Settled.{potential, most_potential};
+ghost use Rattle.gd_scale.specs.Scale.{less};
+ghost use Rattle.gd_mincost.specs.Settling.{potential, most_potential};
 
 use gd_cost::Cost;
 use gd_network::Network;

@@ -1,9 +1,9 @@
 pub mod Names
 pub mod Checks
-pub mod Grows
+pub mod Growth
 pub mod Positions
 pub mod Slots
-pub mod Made
-pub mod Told
-mod Rows
+pub mod Making
+pub mod NamedEnds
+mod Examples
 pub mod Same

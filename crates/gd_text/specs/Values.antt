@@ -12,9 +12,8 @@ use Rattle.gd_system.specs.Pipeline.{Pipeline, empty, after_segment, after_point
 use Rattle.gd_system.specs.declared.BuildFault.{BuildFault}
 use Rattle.gd_system.specs.declared.BuildFault.TheVariants as build
 use Rattle.gd_system.specs.declared.RouteFault.TheVariants as route
-use Rattle.gd_question.specs.Posed.{Posed, posed, after_capacity, after_line}
+use Rattle.gd_question.specs.Posing.{Posed, posed, after_capacity, after_line}
 use Rattle.gd_question.specs.declared.fault.CapacityFault.{CapacityFault}
-use Rattle.gd_question.specs.declared.fault.CapacityFault.TheVariants as capacity
 use Rattle.gd_question.specs.declared.fault.LineFault.{LineFault}
 use Rattle.gd_question.specs.declared.fault.LineFault.TheVariants as line
 use Rattle.gd_text_part.specs.Places.{missing_head}

@@ -1,7 +1,7 @@
 //! The question and the schedule that the rows of a text build.
 
 ghost use Rattle.std.specs.Prelude.{◌≡◌, ◌⊎◌, ◌+◌, ◌<◌, Ok, Err, Some, None, Option, IfOk, MatchResult};
-ghost use Rattle.gd_text.specs.Building.{Becomes, Builds, MayBecome};
+ghost use Rattle.gd_text.specs.Building.{built_from, Becomes, Builds, MayBecome};
 ghost use Rattle.gd_system.specs.Pipeline.{element_number};
 ghost use Rattle.gd_text.specs.Values as spec;
 
@@ -72,18 +72,43 @@ fn add_part(builder: &mut SystemBuilder, number: u64, row: &Row) -> Result<(), T
     }
 }
 
+/// Adds the parts of all rows, or tells the first refusal at its row.
+fn add_parts(builder: &mut SystemBuilder, rows: &[Row]) -> Result<(), TextFault>
+    ensures { MayBecome builder.new result
+        (built_from spec.pipeline_step 1 builder.old rows.now) }
+{
+    'rows: for (index, row) in rows.iter().enumerate() {
+        add_part(builder, index as u64 + 1, row)?;
+    }
+    Ok(())
+}
+
+/// The system of a builder. A missing segment is told at this row.
+fn finished(builder: SystemBuilder, row: u64) -> Result<System, TextFault>
+    ensures { MatchResult result (λ system. spec.finished row builder ≡ Ok system)
+        (λ fault. spec.finished row builder ≡ Err fault) }
+{
+    match builder.finish() {
+        Ok(system) => Ok(system),
+        Err((fault, builder)) => {
+            drop(builder);
+            Err(TextFault::at(row, Cause::Build(fault)))
+        }
+    }
+}
+
 /// The system that the rows build, or the first refusal of its builder, told at its row; a missing segment at one row
 /// past the last.
 pub fn system_of(alloc: Global, rows: &[Row]) -> Result<System, TextFault>
     ensures { Builds (λ system. system) result (spec.pipeline_of rows.now) }
 {
     let mut builder = SystemBuilder::new(alloc);
-    'rows: for (index, row) in rows.iter().enumerate() {
-        add_part(&mut builder, index as u64 + 1, row)?;
-    }
-    match builder.finish() {
-        Ok(system) => Ok(system),
-        Err((fault, _)) => Err(TextFault::at(rows.len() as u64 + 1, Cause::Build(fault))),
+    match add_parts(&mut builder, rows) {
+        Ok(()) => finished(builder, rows.len() as u64 + 1),
+        Err(fault) => {
+            drop(builder);
+            Err(fault)
+        }
     }
 }
 
@@ -143,18 +168,33 @@ fn add_line(builder: &mut QuestionBuilder, number: u64, row: &Row) -> Result<(),
     }
 }
 
+/// Adds the lines and the capacities of all rows, or tells the first refusal at its row.
+fn add_lines(builder: &mut QuestionBuilder, rows: &[Row]) -> Result<(), TextFault>
+    ensures { MayBecome builder.new result
+        (built_from spec.question_step 1 builder.old rows.now) }
+{
+    'rows: for (index, row) in rows.iter().enumerate() {
+        add_line(builder, index as u64 + 1, row)?;
+    }
+    Ok(())
+}
+
 /// The question that the rows ask about a system.
 fn question_about(alloc: Global, rows: &[Row], system: System) -> Result<Question, TextFault>
     ensures { Builds (λ question. question) result (spec.question_about rows.now system) }
 {
     let Some(head) = head_of(rows) else {
+        drop(system);
         return Err(missing_head(rows.len() as u64).into());
     };
     let mut builder = QuestionBuilder::new(alloc, system, head.0, head.1, head.2)?;
-    'rows: for (index, row) in rows.iter().enumerate() {
-        add_line(&mut builder, index as u64 + 1, row)?;
+    match add_lines(&mut builder, rows) {
+        Ok(()) => Ok(builder.finish()),
+        Err(fault) => {
+            drop(builder);
+            Err(fault)
+        }
     }
-    Ok(builder.finish())
 }
 
 /// The quantities of the `sched` rows in dekatherms a gas day, in order. The only error is want of memory.
@@ -184,6 +224,14 @@ pub fn asked_of(alloc: Global, rows: &[Row]) -> Result<Asked, TextFault>
     ensures { Builds (λ a. (a.question, a.schedule)) result (spec.asked_of rows.now) }
 {
     let question = question_of(alloc, rows)?;
-    let schedule = Schedule::of(quantities_of(alloc, rows)?);
-    Ok(Asked { question, schedule })
+    match quantities_of(alloc, rows) {
+        Ok(quantities) => Ok(Asked {
+            question,
+            schedule: Schedule::of(quantities),
+        }),
+        Err(fault) => {
+            drop(question);
+            Err(fault.into())
+        }
+    }
 }

@@ -6,6 +6,6 @@ pub mod Levels
 pub mod Counts
 pub mod Agree
 pub mod Along
-mod Rows
+mod Examples
 pub mod Same
 pub mod Lifts

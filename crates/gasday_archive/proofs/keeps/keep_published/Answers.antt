@@ -2,7 +2,7 @@ use Rattle.std.proofs.Common.{◌≡◌, ◌∙◌, ℕ, List, All, ap, sym, sub
 use Rattle.std.proofs.lemmas.Result.{IfOk-weaker}
 use Rattle.gasday_archive.specs.Keeping.{IsKnownIn, IsPublishedIn, IsThere, KeepsTold, published_cycles}
 use Rattle.gasday_archive.proofs.Keeping.{told_weaker}
-use Rattle.gasday_archive.proofs.Published.{all_held, all_published, all_there}
+use Rattle.gasday_archive.proofs.Publications.{all_held, all_published, all_there}
 use Rattle.gasday_archive.proofs.keeps.keep_published.Goals as goal
 
 pub keep_all-requires-clause-known : goal.keep_all-requires-clause-known

@@ -1,7 +1,7 @@
 use Rattle.std.proofs.Common.{◌≡◌, List, None, Result, inl, refl, sym, subst}
 use Rattle.std.proofs.lemmas.Result.{IfOk-weaker}
 use Rattle.std.specs.Global.{Vec}
-use Rattle.gd_day.specs.Opened.{opened_of}
+use Rattle.gd_day.specs.Opening.{opened_of}
 use Rattle.gd_text_part.specs.declared.fault.RowFault.{RowFault}
 use Rattle.gd_text_part.specs.declared.row.Row.{Row}
 use Rattle.gasday_archive.specs.Runs.{TellsBytes, TellsDay, TellsRows}

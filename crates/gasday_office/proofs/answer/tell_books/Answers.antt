@@ -1,9 +1,5 @@
-use Rattle.std.proofs.Common.{◌≡◌, ℕ, length, vec_len, subst, rules}
-use Rattle.gasday_part.specs.AnswerSeen.{answer_seen}
-use Rattle.gasday_office.specs.Offices.{TellsPhases}
+use Rattle.gasday_office.proofs.OpenedBooks.{known_days}
 use Rattle.gasday_office.proofs.answer.tell_books.Goals as goal
 
-pub returns-in-Ok : goal.returns-in-Ok
-returns-in-Ok g c =
-    let long : length c.in-Ok.office.slots.items ≡ vec_len c.args.books = let s = c.in-Ok.ensures.slots in search rules in
-    subst (λ (n : ℕ). TellsPhases n c.args.phases.now (answer_seen c.tell_run.result)) long c.tell_run.ensures
+pub tell_opened-requires-after_bounds : goal.tell_opened-requires-after_bounds
+tell_opened-requires-after_bounds g c κs within = known_days c.args.books.items

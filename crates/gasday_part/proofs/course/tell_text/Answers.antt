@@ -1,4 +1,4 @@
-use Rattle.std.proofs.Common.{◌≡◌, ap, subst, inl, inr}
+use Rattle.std.proofs.Common.{ap, subst, inl, inr}
 use Rattle.std.proofs.lemmas.Result.{IfOk-weaker}
 use Rattle.gd_machine.specs.Day.{Day}
 use Rattle.gd_book.specs.Kept.{Kept}
@@ -9,7 +9,7 @@ use Rattle.gasday_part.proofs.course.tell_text.Goals as goal
 
 pub returns-in-Ok-open : goal.returns-in-Ok-open
 returns-in-Ok-open g c =
-    let told = subst (λ (d : Day). TellsCourse d (calls_of c.args.rows.now) (answer_seen c.tell_calls.result)) (ap (λ (k : Kept). k.day) c.in-Ok-open.ensures.ok) c.tell_calls.ensures in
+    let told = subst (λ (d : Day). TellsCourse d (calls_of c.args.rows.now) (answer_seen c.tell_calls-told.result)) (ap (λ (k : Kept). k.day) c.in-Ok-open.ensures.ok) c.tell_calls-told.ensures in
     inl (c.in-Ok.calendar, c.in-Ok.ensures.ok, told)
 
 pub returns : goal.returns

@@ -1,12 +1,16 @@
-use Rattle.std.proofs.Common.{◌≡◌, ◌∙◌, ap, ap₂}
+use Rattle.std.proofs.Common.{◌≡◌, ◌∙◌, ap}
 use Rattle.std.proofs.lemmas.Result.{IfOk-weaker}
 use Rattle.clap.specs.Words.{App, app_of, with_subcommand}
+use Rattle.gasday_words.specs.Meaning as spec
 use Rattle.gasday_words.proofs.line.with_texts.Goals as goal
+
+and : (command : App) {a b : App} → a ≡ b → with_subcommand a command.top ≡ with_subcommand b command.top
+and command e = ap (λ (line : App). with_subcommand line command.top) e
 
 pub returns : goal.returns
 returns c =
-    let checks : app_of c.in_ok-with_check.with_check ≡ _ = c.in_ok-with_check.ensures.shape c.in_ok-check.ensures.local ∙ ap₂ with_subcommand c.bare.ensures (ap (λ (a : App). a.top) c.in_ok-check.ensures.app) in
-    let solves : app_of c.in_ok-with_solve.with_solve ≡ _ = c.in_ok-with_solve.ensures.shape c.in_ok-solve.ensures.local ∙ ap₂ with_subcommand checks (ap (λ (a : App). a.top) c.in_ok-solve.ensures.app) in
-    let calendars : app_of c.in_ok-with_calendar.with_calendar ≡ _ = c.in_ok-with_calendar.ensures.shape c.in_ok-calendar.ensures.local ∙ ap₂ with_subcommand solves (ap (λ (a : App). a.top) c.in_ok-calendar.ensures.app) in
-    let days : app_of c.in_ok-with_day.with_day ≡ _ = c.in_ok-with_day.ensures.shape c.in_ok-day.ensures.local ∙ ap₂ with_subcommand calendars (ap (λ (a : App). a.top) c.in_ok-day.ensures.app) in
-    IfOk-weaker c.subcommand-5.result _ _ (λ r h. h.shape c.in_ok-office.ensures.local ∙ ap₂ with_subcommand days (ap (λ (a : App). a.top) c.in_ok-office.ensures.app)) c.subcommand-5.ensures
+    let checks : app_of c.in-Ok.with_check ≡ _ = c.in-Ok.ensures spec.check c.check.ensures.app ∙ and spec.check c.bare.ensures in
+    let solves : app_of c.in-Ok-with_command.with_solve ≡ _ = c.in-Ok-with_command.ensures spec.solve c.solve.ensures.app ∙ and spec.solve checks in
+    let calendars : app_of c.in-Ok-with_command-2.with_calendar ≡ _ = c.in-Ok-with_command-2.ensures spec.calendar c.calendar.ensures.app ∙ and spec.calendar solves in
+    let days : app_of c.in-Ok-with_command-3.with_day ≡ _ = c.in-Ok-with_command-3.ensures spec.day c.day.ensures.app ∙ and spec.day calendars in
+    IfOk-weaker c.with_command-5.result _ _ (λ r h. h spec.office c.office.ensures.app ∙ and spec.office days) c.with_command-5.ensures

@@ -1,8 +1,8 @@
 use Rattle.std.proofs.Common.{rules, ◌≡◌, ◌∙◌, All, length}
 use Rattle.std.proofs.lemmas.List.Sorted.{IsPermutation-sym, All-permutation, length_permutation}
 use Rattle.sqlite.specs.Held.{state}
-use Rattle.gd_archive_store.specs.Kept.{rows_of}
-use Rattle.gd_archive.specs.Sound.{IsSound}
+use Rattle.gd_archive_store.specs.Contents.{rows_of}
+use Rattle.gd_archive.specs.Soundness.{IsSound}
 use Rattle.gd_archive.proofs.auditing.audit.Goals as goal
 
 pub returns-clause-audited : goal.returns-clause-audited

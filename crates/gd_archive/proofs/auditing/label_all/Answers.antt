@@ -1,5 +1,5 @@
 use Rattle.std.proofs.Common.{rules, ◌<◌, length}
-use Rattle.gd_archive.specs.Sound.{IsLabelled}
+use Rattle.gd_archive.specs.Soundness.{IsLabelled}
 use Rattle.gd_archive_store.proofs.Inside.{all_more}
 use Rattle.gd_archive.proofs.auditing.label_all.Goals as goal
 

@@ -1,6 +1,6 @@
 use Rattle.std.proofs.Common.{rules, ◌<◌, All, length, subst}
 use Rattle.std.proofs.lemmas.List.{take_all}
-use Rattle.gd_archive.specs.Sound.{IsSound}
+use Rattle.gd_archive.specs.Soundness.{IsSound}
 use Rattle.gd_archive_store.proofs.Inside.{all_more}
 use Rattle.gd_archive.proofs.auditing.test_all.Goals as goal
 

@@ -1,6 +1,6 @@
 use Rattle.std.proofs.Common.{rules, ◌≡◌, Some, false}
 use Rattle.sqlite_value.specs.Value.{owned}
-use Rattle.gd_archive.specs.Sound.{posting_of_body, is_of}
+use Rattle.gd_archive.specs.Soundness.{posting_of_body, is_of}
 use Rattle.gd_archive.proofs.Kept.{none_of}
 use Rattle.gd_archive.proofs.sound.posting_at.Goals as goal
 

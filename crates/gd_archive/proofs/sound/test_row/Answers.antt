@@ -2,7 +2,7 @@ use Rattle.std.proofs.Common.{rules, ◌≡◌, ◌≢◌, Some, subst, sym}
 use Rattle.gd_certificate.specs.declared.CertFault.TheVariants as cert
 use Rattle.sqlite.specs.Order.{column}
 use Rattle.sqlite_value.specs.Value.{owned}
-use Rattle.gd_archive.specs.Sound.{Passes, posting_at, Blames, ExplainsBy}
+use Rattle.gd_archive.specs.Soundness.{Passes, posting_at, Blames, ExplainsBy}
 use Rattle.gd_archive.proofs.Kept.{sound_row, at_row, blamed}
 use Rattle.gd_archive.proofs.sound.test_row.Goals as goal
 
@@ -16,8 +16,8 @@ returns-in-Ok-check_posting-clause-ok c =
     let passes : Passes label.rule c.in-Ok.posting = search rules in
     sound_row row label _ _ c.in-Ok.posting c.in_ok-label.ensures round body found passes
 
-pub returns : goal.returns
-returns c =
+pub returns-in-Err : goal.returns-in-Err
+returns-in-Err c =
     let row = c.args.row.now in
     let label = c.in_ok-label.label in
     let round : owned c.in_ok-round.round ≡ column row 2 = search rules in

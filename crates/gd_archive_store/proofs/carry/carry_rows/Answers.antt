@@ -1,6 +1,6 @@
 use Rattle.std.proofs.Common.{◌<◌, length, rules, ◌∙◌}
 use Rattle.sqlite.specs.Held.{state}
-use Rattle.gd_archive_store.specs.Carried.{carried}
+use Rattle.gd_archive_store.specs.Migration.{carried}
 use Rattle.gd_archive_store.proofs.Inside.{carry_more, keeps_then, all_more}
 use Rattle.gd_archive_store.proofs.carry.carry_rows.Goals as goal
 

@@ -1,6 +1,6 @@
 use Rattle.std.proofs.Common.{◌≡◌, length, rules}
 use Rattle.sqlite.specs.Held.{state}
-use Rattle.gd_archive_store.specs.Kept.{entry}
+use Rattle.gd_archive_store.specs.Contents.{entry}
 use Rattle.gd_archive_store.proofs.Keeping.{still, still_late, settled_late, finds_some, enters_one}
 use Rattle.gd_archive_store.proofs.entry.keep.Goals as goal
 

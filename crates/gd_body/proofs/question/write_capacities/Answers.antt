@@ -1,6 +1,6 @@
 use Rattle.std.proofs.Common.{string_bytes}
 use Rattle.gd_body.specs.Rows.{capacity_row}
-use Rattle.gd_body.proofs.Written.{rows_more}
+use Rattle.gd_body.proofs.RowLists.{rows_more}
 use Rattle.gd_body.proofs.question.write_capacities.Goals as goal
 
 pub elements-preserved : goal.elements-preserved

@@ -1,6 +1,6 @@
 use Rattle.std.proofs.Common.{string_bytes}
 use Rattle.gd_body.specs.Rows.{part_row}
-use Rattle.gd_body.proofs.Written.{row_more}
+use Rattle.gd_body.proofs.RowLists.{row_more}
 use Rattle.gd_body.proofs.question.write_parts.Goals as goal
 
 pub elements-preserved : goal.elements-preserved

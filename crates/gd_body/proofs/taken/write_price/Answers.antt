@@ -4,7 +4,7 @@ use Rattle.std.specs.List.{flat_map, range_with_len}
 use Rattle.std.proofs.lemmas.Int.{to_z-of_z}
 use Rattle.gd_cost.specs.Parts.{class_words}
 use Rattle.gd_body.specs.Rows.{lines_of, level_row}
-use Rattle.gd_body.proofs.Written.{rows_more}
+use Rattle.gd_body.proofs.RowLists.{rows_more}
 use Rattle.gd_body.proofs.taken.write_price.Goals as goal
 
 pub classes-preserved : goal.classes-preserved

@@ -2,7 +2,7 @@ use Rattle.std.proofs.Common.{List, length, min, string_bytes, ap, ap₂, ◌∙
 use Rattle.gd_cost.specs.declared.lex.Lex.{Lex}
 use Rattle.gd_cost.specs.declared.pair.Pair.{Pair}
 use Rattle.gd_system.specs.Pipeline.{names_of}
-use Rattle.gd_body.proofs.Written.{written_more, written_all, prices_more, prices_done}
+use Rattle.gd_body.proofs.RowLists.{written_more, written_all, prices_more, prices_done}
 use Rattle.gd_body.proofs.taken.write_prices.Goals as goal
 
 pub elements-preserved : goal.elements-preserved

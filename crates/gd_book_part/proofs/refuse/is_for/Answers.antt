@@ -1,5 +1,5 @@
 use Rattle.std.proofs.Common.{ap, ◌∙◌}
-use Rattle.gd_question.specs.Posed.{Posed}
+use Rattle.gd_question.specs.Posing.{Posed}
 use Rattle.gd_machine.specs.Same.{same_question}
 use Rattle.gd_book_part.proofs.Sameness.{test_is}
 use Rattle.gd_book_part.proofs.refuse.is_for.Goals as goal

@@ -1,6 +1,6 @@
 use Rattle.std.proofs.Common.{map, subst}
 use Rattle.std.specs.Prelude.{OnOk, IfErr}
-use Rattle.gd_rules.specs.Words.{tariff, tariff_unit}
+use Rattle.gd_rules.specs.Tariff.{tariff, tariff_unit}
 use Rattle.gd_rules.proofs.ByClass.{pair_unit_is}
 use Rattle.gd_cost.specs.Parts.{class_words}
 use Rattle.gd_certificate.specs.Exact.{Passes, Explains}

@@ -1,6 +1,7 @@
 use Rattle.std.proofs.Common.{map, subst}
 use Rattle.std.specs.Prelude.{OnOk, IfErr}
-use Rattle.gd_rules.specs.Words.{words, words_fit, class_unit}
+use Rattle.gd_scale.specs.Words.{words, words_fit}
+use Rattle.gd_rules.specs.Tariff.{class_unit}
 use Rattle.gd_rules.proofs.ByClass.{lex_unit_is}
 use Rattle.gd_cost.specs.Parts.{words_of}
 use Rattle.gd_certificate.specs.Exact.{Passes, Explains}

@@ -1,5 +1,5 @@
 use Rattle.std.proofs.Common.{◌≡◌, ◌≤◌, ◌*◌}
-use Rattle.gd_rules.specs.Sum.{sum_nat}
+use Rattle.gd_scale.specs.Sum.{sum_nat}
 use Rattle.gd_rules.specs.Question.{element}
 use Rattle.gd_rules.specs.Cut.{way_out}
 use Rattle.gd_certificate.specs.Cutting.{side_of}

@@ -1,6 +1,6 @@
 use Rattle.std.proofs.Common.{◌≡◌, ◌≤◌, ◌*◌, ◌&&◌}
 use Rattle.std.specs.Prelude.{if◌then◌else◌, not}
-use Rattle.gd_rules.specs.Sum.{sum_nat}
+use Rattle.gd_scale.specs.Sum.{sum_nat}
 use Rattle.gd_rules.specs.Question.{line}
 use Rattle.gd_rules.specs.Cut.{has_end}
 use Rattle.gd_certificate.specs.Cutting.{side_of}

@@ -1,4 +1,4 @@
-use Rattle.std.proofs.Common.{◌≡◌, ◌∙◌, List, sym, subst}
+use Rattle.std.proofs.Common.{◌∙◌, List, sym, subst}
 use Rattle.gd_day.specs.Calls.{calls_of}
 use Rattle.gd_replies.specs.declared.reply.Reply.{Reply}
 use Rattle.gd_course.specs.Course.{RunsInPart}

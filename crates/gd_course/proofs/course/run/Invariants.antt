@@ -1,5 +1,5 @@
 use Rattle.std.proofs.Common.{◌≡◌}
-use Rattle.gd_book.specs.Posted.{AllPosted}
+use Rattle.gd_book.specs.Postings.{AllPosted}
 use Rattle.gd_course.proofs.Running.{IsAt}
 use Rattle.gd_course.proofs.course.run.Given as goal
 

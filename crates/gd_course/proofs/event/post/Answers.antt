@@ -1,5 +1,5 @@
 use Rattle.std.proofs.Common.{rules, sym}
-use Rattle.gd_day.specs.Named.{element_named}
+use Rattle.gd_day.specs.ElementNames.{element_named}
 use Rattle.gd_course.proofs.event.post.Goals as goal
 
 -- The element is the one that the pipeline of the book has by this name.

@@ -1,4 +1,4 @@
-use Rattle.std.proofs.Common.{◌≡◌, ◌+◌, ◌∙◌, length, get_or, ap, sym, arith}
+use Rattle.std.proofs.Common.{◌≡◌, ◌+◌, ◌∙◌, length, get_or, ap, arith}
 use Rattle.gd_machine.specs.History.{History}
 use Rattle.gd_course.proofs.Last.{last_accepted}
 use Rattle.gd_course.proofs.rows.last_rows.Goals as goal

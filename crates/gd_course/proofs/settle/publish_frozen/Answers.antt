@@ -1,6 +1,6 @@
-use Rattle.std.proofs.Common.{◌≡◌, ◌∙◌, ap, map, sym, refl}
+use Rattle.std.proofs.Common.{◌≡◌, ◌∙◌, ap, sym, refl}
 use Rattle.std.proofs.lemmas.Result.{IfOk-weaker}
-use Rattle.gd_question.specs.Posed.{Posed}
+use Rattle.gd_question.specs.Posing.{Posed}
 use Rattle.gd_certificate.specs.Checked.{Certificate}
 use Rattle.gd_machine.specs.declared.event.Event.TheVariants as event
 use Rattle.gd_course.specs.Course.{certificate_of}
@@ -8,34 +8,37 @@ use Rattle.gd_course.proofs.Posting.{always}
 use Rattle.gd_course.proofs.Publishing.{offered, explained, refused}
 use Rattle.gd_course.proofs.settle.publish_frozen.Goals as goal
 
-pub uncertified_reply-requires : goal.uncertified_reply-requires
-uncertified_reply-requires g c =
-    let kept = c.in-Err.ensures.kept in
-    explained c.in-Err.question c.in_ok-question.question c.in-Err.schedule c.args.offer.schedule c.in-Err.prices c.args.offer.prices c.in-Err.fault kept.0 kept.1 kept.2 c.in-Err.ensures.fault
+pub uncertified_reply-told-requires : goal.uncertified_reply-told-requires
+uncertified_reply-told-requires g c =
+    let kept = c.in-Err-check_par.ensures.kept in
+    explained c.in-Err-check_par.question c.in-Ok.question c.in-Err-check_par.schedule c.args.offer.schedule c.in-Err-check_par.prices c.args.offer.prices c.in-Err-check_par.fault kept.0 kept.1 kept.2 c.in-Err-check_par.ensures.fault
 
-pub returns-in-Ok-clause-gives : goal.returns-in-Ok-clause-gives
-returns-in-Ok-clause-gives g c =
+pub returns-in-Ok-check_par-clause-gives : goal.returns-in-Ok-check_par-clause-gives
+returns-in-Ok-check_par-clause-gives g c =
     let day = c.args.book.now.day in
     let h = c.args.book.now.history in
     let offer = c.args.offer in
-    let certificate = c.in-Ok.certificate in
+    let certificate = c.in-Ok-check_par.certificate in
     let same : certificate ≡ certificate_of day h offer.schedule offer.prices =
-    c.in-Ok.ensures.passes ∙ ap (λ (q : Posed). let v : Certificate = record { question = q; schedule = offer.schedule; prices = offer.prices } in v) c.in_ok-question.ensures in
+    c.in-Ok-check_par.ensures.passes ∙ ap (λ (q : Posed). let v : Certificate = record { question = q; schedule = offer.schedule; prices = offer.prices } in v) c.in-Ok.ensures in
     let told = rw c.publish-answer.ensures.day at c.tell.ensures h (event.Publish offer.moment certificate) in
     IfOk-weaker c.tell.result _ _
-    (λ rows t. offered day h offer.moment offer.schedule offer.prices certificate c.publish-answer.result rows.items c.publish-answer.new.self.history same c.in-Ok.ensures.right c.publish-answer.ensures.step t)
+    (λ rows t. offered day h offer.moment offer.schedule offer.prices certificate c.publish-answer.result rows.items c.publish-answer.new.self.history same c.in-Ok-check_par.ensures.right c.publish-answer.ensures.step t)
     (told c.publish-answer.ensures.step)
 
-pub returns-in_ok-uncertified_reply-in-Err-clause-gives : goal.returns-in_ok-uncertified_reply-in-Err-clause-gives
-returns-in_ok-uncertified_reply-in-Err-clause-gives g c =
+pub returns-in_ok-told-in-Err-check_par-clause-gives : goal.returns-in_ok-told-in-Err-check_par-clause-gives
+returns-in_ok-told-in-Err-check_par-clause-gives g c =
     let day = c.args.book.now.day in
     let h = c.args.book.now.history in
     let offer = c.args.offer in
-    let kept = c.in-Err.ensures.kept in
+    let kept = c.in-Err-check_par.ensures.kept in
     IfOk-weaker c.one_row.result _ _
-    (λ rows is. refused day h offer.moment offer.schedule offer.prices c.in_ok-question.question offer.schedule offer.prices c.in-Err.fault c.in_ok-uncertified_reply-in-Err.field-0 rows.items
-    (sym c.in_ok-question.ensures) refl refl c.in-Err.ensures.fault (rw kept.0 at c.in_ok-uncertified_reply-in-Err.ensures.told) is)
+    (λ rows is. refused day h offer.moment offer.schedule offer.prices c.in-Ok.question offer.schedule offer.prices c.in-Err-check_par.fault c.in_ok-told-in-Err-check_par.field-0 rows.items
+    (sym c.in-Ok.ensures) refl refl c.in-Err-check_par.ensures.fault (rw kept.0 at c.in_ok-told-in-Err-check_par.ensures.told) is)
     c.one_row.ensures
 
-pub returns-in-Ok-clause-posted : goal.returns-in-Ok-clause-posted
-returns-in-Ok-clause-posted g c = always c.tell.result c.publish-answer.ensures.all_posted
+pub returns-in-Ok-check_par-clause-posted : goal.returns-in-Ok-check_par-clause-posted
+returns-in-Ok-check_par-clause-posted g c = always c.tell.result c.publish-answer.ensures.all_posted
+
+pub returns-in_ok-told-in-Err-check_par-clause-posted : goal.returns-in_ok-told-in-Err-check_par-clause-posted
+returns-in_ok-told-in-Err-check_par-clause-posted g c = always c.one_row.result (λ posted. posted)

@@ -5,7 +5,7 @@ use Rattle.gd_rules.specs.Lines.{Key, same_key}
 use Rattle.gd_text_part.specs.declared.fault.Cause.TheVariants as cause
 use Rattle.gd_text_part.specs.declared.fault.TextFault.{TextFault}
 use Rattle.gd_text_part.specs.declared.fault.TextFault.TheVariants as fault
-use Rattle.gd_day.specs.Carried.{carry_step, keys}
+use Rattle.gd_day.specs.Carrying.{carry_step, keys}
 use Rattle.gd_day.proofs.carry.add_carry.Goals as goal
 
 -- a key that is there is refused

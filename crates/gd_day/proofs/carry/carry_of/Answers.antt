@@ -4,7 +4,7 @@ use Rattle.std.proofs.Common.{ℕ, ◌≡◌, ◌+◌, List, subst, inl, inr, Re
 use Rattle.gd_rules.specs.Lines.{Key, same_key}
 use Rattle.gd_text_part.specs.declared.fault.TextFault.{TextFault}
 use Rattle.gd_text_part.specs.declared.fault.TextFault.TheVariants as fault
-use Rattle.gd_day.specs.Carried.{carry_step, carry_of}
+use Rattle.gd_day.specs.Carrying.{carry_step, carry_of}
 use Rattle.std.proofs.lemmas.Result.{err_from_is_err_and}
 use Rattle.gd_text.proofs.Building.{goes_on, stops, is_done}
 use Rattle.gd_day.proofs.carry.carry_of.Goals as goal

@@ -2,7 +2,7 @@ use Rattle.std.proofs.Common.{◌≡◌, ◌+◌, [], drop}
 use Rattle.std.specs.List.{IsDistinct}
 use Rattle.gd_rules.specs.Lines.{same_key}
 use Rattle.gd_text.specs.Building.{built_from}
-use Rattle.gd_day.specs.Carried.{carry_step, keys}
+use Rattle.gd_day.specs.Carrying.{carry_step, keys}
 use Rattle.gd_day.proofs.carry.carry_of.Given as goal
 
 -- What the rows that are left make of what is carried is what all of them make of nothing.

@@ -3,7 +3,7 @@ use Rattle.std.proofs.Common.{◌≡◌, ◌+◌, inl, inr, Result, Err}
 use Rattle.gd_text_part.specs.declared.fault.TextFault.{TextFault}
 use Rattle.gd_text_part.specs.declared.fault.TextFault.TheVariants as fault
 use Rattle.gd_contracts.specs.Held.{Held}
-use Rattle.gd_day.specs.Contracted.{contract_step, contracts_on}
+use Rattle.gd_day.specs.ContractRows.{contract_step, contracts_on}
 use Rattle.std.proofs.lemmas.Result.{err_from_is_err_and}
 use Rattle.gd_text.proofs.Building.{goes_on, stops, is_done}
 use Rattle.gd_day.proofs.contracts.contracts_on.Goals as goal

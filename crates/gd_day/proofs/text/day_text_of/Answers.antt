@@ -10,12 +10,11 @@ use Rattle.gd_text_part.specs.declared.fault.TextFault.TheVariants as fault
 use Rattle.gd_text_part.specs.declared.row.Row.{Row}
 use Rattle.gd_text.specs.Values.{pipeline_of}
 use Rattle.gd_day.specs.Calls.{calls_of}
-use Rattle.gd_day.specs.Carried.{carry_of}
-use Rattle.gd_day.specs.Contracted.{contracts_on}
+use Rattle.gd_day.specs.Carrying.{carry_of}
+use Rattle.gd_day.specs.ContractRows.{contracts_on}
 use Rattle.gd_day.specs.Groups.{checked_calls}
 use Rattle.gd_day.specs.Heads.{head_of}
-use Rattle.gd_day.specs.Opened.{Opened, opened_of}
-use Rattle.std.proofs.lemmas.Result.{err_from_is_err_and}
+use Rattle.gd_day.specs.Opening.{Opened, opened_of}
 use Rattle.gd_day.proofs.Called.{all_pass}
 use Rattle.gd_day.proofs.text.day_text_of.Goals as goal
 
@@ -46,35 +45,7 @@ either : {X : Type 0} (f : TextFault) (part : Result X TextFault) (whole : Resul
 either f part whole rest e (inl m) = inl m
 either {X = X} f part whole rest e (inr q) = inr (e ∙ ap (λ (o : Result X TextFault). o >>= rest) q)
 
-pub returns-in_err-head-clause-values : goal.returns-in_err-head-clause-values
-returns-in_err-head-clause-values c =
-    let p = err_from_is_err_and c.from_residual-in_err-head.result c.from_residual-in_err-head.ensures.1 in
-    let rows = c.args.rows.now in
+pub returns-in-Ok-check_calls-clause-passed : goal.returns-in-Ok-check_calls-clause-passed
+returns-in-Ok-check_calls-clause-passed c =
     let held = c.in_ok-contracts.contracts in
-    rw (p.1, p.2) (either _ (head_of rows) (opened_of rows) (with_head rows held) (to_held rows c.in_ok-system.system held c.in_ok-system.ensures c.in_ok-contracts.ensures) c.in_err-head.ensures)
-
-pub returns-in_err-carry-clause-values : goal.returns-in_err-carry-clause-values
-returns-in_err-carry-clause-values c =
-    let p = err_from_is_err_and c.from_residual-in_err-carry.result c.from_residual-in_err-carry.ensures.1 in
-    let rows = c.args.rows.now in
-    let held = c.in_ok-contracts.contracts in
-    let head : Head = (c.in_ok-head.head.date, c.in_ok-head.head.zone, c.in_ok-head.head.book) in
-    rw (p.1, p.2) (either _ (carry_of rows) (opened_of rows) (with_carry rows held head)
-    (to_held rows c.in_ok-system.system held c.in_ok-system.ensures c.in_ok-contracts.ensures ∙ ap (λ (o : Result Head TextFault). o >>= with_head rows held) c.in_ok-head.ensures)
-    c.in_err-carry.ensures.carried)
-
-pub returns-in_err-check_calls-clause-values : goal.returns-in_err-check_calls-clause-values
-returns-in_err-check_calls-clause-values c =
-    let p = err_from_is_err_and c.from_residual-in_err-check_calls.result c.from_residual-in_err-check_calls.ensures.1 in
-    let rows = c.args.rows.now in
-    let held = c.in_ok-contracts.contracts in
-    let head : Head = (c.in_ok-head.head.date, c.in_ok-head.head.zone, c.in_ok-head.head.book) in
-    rw (p.1, p.2) (either _ (checked_calls held.pipeline (calls_of rows)) (opened_of rows) (with_calls held head c.in_ok-carry.carry.items)
-    (to_held rows c.in_ok-system.system held c.in_ok-system.ensures c.in_ok-contracts.ensures ∙ ap (λ (o : Result Head TextFault). o >>= with_head rows held) c.in_ok-head.ensures
-    ∙ ap (λ (o : Result (List (Key × ℕ)) TextFault). o >>= with_carry rows held head) c.in_ok-carry.ensures.carried)
-    (rw c.system.ensures at c.in_err-check_calls.ensures))
-
-pub returns-clause-passed : goal.returns-clause-passed
-returns-clause-passed c =
-    let held = c.in_ok-contracts.contracts in
-    all_pass held.pipeline (calls_of c.args.rows.now) (rw c.system.ensures at c.in_ok-check_calls.ensures)
+    all_pass held.pipeline (calls_of c.args.rows.now) (rw c.system.ensures at c.in-Ok-check_calls.ensures)

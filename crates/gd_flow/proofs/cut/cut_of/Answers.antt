@@ -1,7 +1,7 @@
 use Rattle.std.proofs.Common.{◌≡◌, ◌+◌, ◌<◌, ◌≤◌, length, get_or, false, refl, sym, ◌∙◌, ap, subst, arith}
 use Rattle.gd_system.specs.Pipeline.{Pipeline}
 use Rattle.gd_system.specs.Known.{IsSystem}
-use Rattle.gd_question.specs.Posed.{Posed}
+use Rattle.gd_question.specs.Posing.{Posed}
 use Rattle.gd_network.specs.Flow.{IsSideOf}
 use Rattle.gd_certificate.specs.Cutting.{Members, side_of}
 use Rattle.gd_flow.proofs.Sides.{side_is}

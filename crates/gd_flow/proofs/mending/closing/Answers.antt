@@ -1,9 +1,9 @@
 use Rattle.std.proofs.Common.{◌≡◌, List, get_or, Bool, true, false, ◌∙◌, subst}
 use Rattle.gd_network.specs.Flow.{IsSideOf}
 use Rattle.gd_certificate.specs.Cutting.{side_of}
-use Rattle.gd_walks.specs.Steps.{head_of, tail_of}
+use Rattle.gd_network.specs.Steps.{head_of, tail_of}
 use Rattle.gd_flow.proofs.Amiss.{mends_room}
-use Rattle.gd_flow.proofs.Stuck.{unmarked, edge, short}
+use Rattle.gd_flow.proofs.ReachedCut.{unmarked, edge, short}
 use Rattle.gd_flow.proofs.mending.closing.Goals as goal
 
 pub walk_to-requires-clause-has_room : goal.walk_to-requires-clause-has_room

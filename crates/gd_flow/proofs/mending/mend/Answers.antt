@@ -1,7 +1,7 @@
 use Rattle.std.proofs.Common.{◌≡◌, ◌<◌, ◌<ℤ◌, pos, List, length, get_or, ℤ, to_z, of_z, w64, false, sym, subst, arith}
 use Rattle.std.proofs.lemmas.Int.{ints, to_z-of_z}
-use Rattle.gd_walks.specs.declared.Step.{Step}
-use Rattle.gd_walks.specs.Steps.{HasRooms, Follows, Mends}
+use Rattle.gd_network.specs.declared.walks.Step.{Step}
+use Rattle.gd_network.specs.Steps.{HasRooms, Follows, Mends}
 use Rattle.gd_flow.specs.Search.{Closes}
 use Rattle.gd_flow.specs.Ways.{IsWay}
 use Rattle.gd_flow.specs.declared.mending.Way.{Way}

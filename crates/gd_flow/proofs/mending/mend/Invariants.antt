@@ -1,5 +1,5 @@
-use Rattle.gd_walks.specs.Steps.{IsNearer, all_amiss}
-use Rattle.gd_flow.specs.Kept.{IsKept}
+use Rattle.gd_network.specs.Steps.{IsNearer, all_amiss}
+use Rattle.gd_flow.specs.Keeping.{IsKept}
 use Rattle.gd_flow.proofs.mending.mend.Given as goal
 
 abbrev pub invariant-loop-fault : goal.invariant-loop-fault

@@ -1,6 +1,6 @@
 use Rattle.std.proofs.Common.{◌≡◌, inl, inr, subst, arith}
 use Rattle.std.proofs.lemmas.Bool.{cases_lt}
-use Rattle.gd_flow.specs.Kept.{Holds}
+use Rattle.gd_flow.specs.Keeping.{Holds}
 use Rattle.gd_flow.proofs.Amiss.{still_holds}
 use Rattle.gd_flow.proofs.mending.mend_all.Goals as goal
 

@@ -1,5 +1,5 @@
 use Rattle.std.proofs.Common.{ℕ, ◌<◌}
-use Rattle.gd_flow.specs.Kept.{IsKept, Holds}
+use Rattle.gd_flow.specs.Keeping.{IsKept, Holds}
 use Rattle.gd_flow.proofs.mending.mend_all.Given as goal
 
 abbrev pub invariant-loop-number : goal.invariant-loop-number

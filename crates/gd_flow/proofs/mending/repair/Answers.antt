@@ -1,5 +1,5 @@
 use Rattle.std.proofs.Common.{sym, ◌∙◌, subst}
-use Rattle.gd_flow.specs.Kept.{IsKept}
+use Rattle.gd_flow.specs.Keeping.{IsKept}
 use Rattle.gd_flow.proofs.Amiss.{first_kept}
 use Rattle.gd_flow.proofs.mending.repair.Goals as goal
 

@@ -1,6 +1,6 @@
 use Rattle.std.proofs.Common.{◌≤◌, map, subst, arith}
-use Rattle.gd_mincost.specs.Closed.{AreShown}
-use Rattle.gd_mincost.proofs.Shown.{are_shown}
+use Rattle.gd_mincost.specs.ClosedWalks.{AreShown}
+use Rattle.gd_mincost.proofs.LabelPotentials.{are_shown}
 use Rattle.gd_mincost.proofs.best.improve.Goals as goal
 
 pub returns-in-Labels-clause-improved : goal.returns-in-Labels-clause-improved

@@ -1,10 +1,10 @@
 use Rattle.std.proofs.Common.{ℕ, ◌+◌, List, length, map, sym, ◌∙◌, subst}
-use Rattle.gd_mincost.specs.Closed.{AreShown}
-use Rattle.gd_mincost.specs.Settled.{IsSettled}
+use Rattle.gd_mincost.specs.ClosedWalks.{AreShown}
+use Rattle.gd_mincost.specs.Settling.{IsSettled}
 use Rattle.std.proofs.lemmas.List.{length-map}
 use Rattle.std.proofs.Common.{ap}
-use Rattle.gd_mincost.proofs.Shown.{is_settled, written}
-use Rattle.gd_mincost.proofs.Shows.{settled_by, feasible_parts}
+use Rattle.gd_mincost.proofs.LabelPotentials.{is_settled, written}
+use Rattle.gd_mincost.proofs.PotentialTests.{settled_by, feasible_parts}
 use Rattle.gd_mincost.proofs.best.settle_from.Goals as goal
 
 pub returns-clause-settled : goal.returns-clause-settled

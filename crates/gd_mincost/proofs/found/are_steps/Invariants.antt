@@ -1,5 +1,5 @@
 use Rattle.std.proofs.Common.{ℕ, ◌<◌, length, get_or}
-use Rattle.gd_walks.specs.declared.Step.{Step}
+use Rattle.gd_network.specs.declared.walks.Step.{Step}
 use Rattle.gd_mincost.proofs.found.are_steps.Given as goal
 
 abbrev pub invariant-loop-step : goal.invariant-loop-step

@@ -1,5 +1,5 @@
 use Rattle.std.proofs.Common.{ℕ, drop}
-use Rattle.gd_walks.specs.Steps.{Follows}
+use Rattle.gd_network.specs.Steps.{Follows}
 use Rattle.gd_mincost.proofs.found.end_of.Given as goal
 
 -- what the steps that are left lead to, the whole walk leads to

@@ -1,8 +1,8 @@
 use Rattle.std.proofs.Common.{◌≡◌, ℕ, ◌<◌, List, Bool, length, map, cond, get_or, sym, ap, ◌∙◌, subst, IsTrue}
 use Rattle.std.specs.Prelude.{ℤ, pos, true}
-use Rattle.gd_rules.specs.Scale.{Scale, IsLawful}
-use Rattle.gd_rules.proofs.Group.{neutral_left}
-use Rattle.gd_walks.specs.declared.Step.{Step}
+use Rattle.gd_scale.specs.Scale.{Scale, IsLawful}
+use Rattle.gd_scale.proofs.Group.{neutral_left}
+use Rattle.gd_network.specs.declared.walks.Step.{Step}
 use Rattle.gd_mincost.specs.Gains.{AreGains, gain_at, gained}
 use Rattle.gd_mincost.proofs.Table.{read}
 use Rattle.gd_mincost.proofs.Links.{fits_large, step_small}

@@ -1,6 +1,6 @@
 use Rattle.std.proofs.Common.{◌≡◌, ◌≢◌, ℕ, ◌+◌, ◌<◌, length, get_or, true, false}
-use Rattle.gd_walks.specs.declared.Step.{Step}
-use Rattle.gd_walks.specs.Steps.{head_of}
+use Rattle.gd_network.specs.declared.walks.Step.{Step}
+use Rattle.gd_network.specs.Steps.{head_of}
 use Rattle.gd_mincost.proofs.found.is_once.Given as goal
 
 abbrev pub invariant-loop-step : goal.invariant-loop-step

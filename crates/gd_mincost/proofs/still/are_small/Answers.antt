@@ -1,7 +1,7 @@
 use Rattle.std.proofs.Common.{◌^◌, map, refl, sym, ◌∙◌, subst, IsTrue, below_more}
 use Rattle.std.specs.Prelude.{pos}
-use Rattle.gd_mincost.specs.Settled.{potential}
-use Rattle.gd_mincost.proofs.Shows.{read_potential}
+use Rattle.gd_mincost.specs.Settling.{potential}
+use Rattle.gd_mincost.proofs.PotentialTests.{read_potential}
 use Rattle.gd_mincost.proofs.still.are_small.Goals as goal
 
 pub loop-potential-preserved : goal.loop-potential-preserved

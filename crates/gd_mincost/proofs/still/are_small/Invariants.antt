@@ -1,6 +1,6 @@
 use Rattle.std.proofs.Common.{ℕ, ◌<◌, ◌^◌, map, IsTrue}
 use Rattle.std.specs.Prelude.{pos}
-use Rattle.gd_mincost.specs.Settled.{potential}
+use Rattle.gd_mincost.specs.Settling.{potential}
 use Rattle.gd_mincost.proofs.still.are_small.Given as goal
 
 abbrev pub invariant-loop-potential : goal.invariant-loop-potential

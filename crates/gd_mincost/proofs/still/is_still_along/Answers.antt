@@ -1,7 +1,7 @@
 use Rattle.std.proofs.Common.{length, map, ap}
 use Rattle.gd_network.specs.Arcs.{from_at, to_at}
-use Rattle.gd_mincost.specs.Settled.{potential}
-use Rattle.gd_mincost.proofs.Shows.{from_is, to_is, in_nodes, at_most_same}
+use Rattle.gd_mincost.specs.Settling.{potential}
+use Rattle.gd_mincost.proofs.PotentialTests.{from_is, to_is, in_nodes, at_most_same}
 use Rattle.gd_mincost.proofs.still.is_still_along.Goals as goal
 
 pub raises_none-requires-clause-from : goal.raises_none-requires-clause-from

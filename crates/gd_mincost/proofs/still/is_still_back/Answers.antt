@@ -1,9 +1,9 @@
 use Rattle.std.proofs.Common.{length, map, sym, ap, ◌∙◌, subst, IsTrue}
 use Rattle.std.specs.Prelude.{pos}
 use Rattle.gd_network.specs.Arcs.{from_at, to_at}
-use Rattle.gd_mincost.specs.Settled.{potential}
+use Rattle.gd_mincost.specs.Settling.{potential}
 use Rattle.gd_mincost.proofs.Links.{fits_large}
-use Rattle.gd_mincost.proofs.Shows.{from_is, to_is, in_nodes, at_most_same, turned}
+use Rattle.gd_mincost.proofs.PotentialTests.{from_is, to_is, in_nodes, at_most_same, turned}
 use Rattle.gd_mincost.proofs.still.is_still_back.Goals as goal
 
 pub raises_none-requires-clause-from : goal.raises_none-requires-clause-from

@@ -1,5 +1,5 @@
 use Rattle.std.proofs.Common.{refl}
-use Rattle.gd_mincost.proofs.Shows.{read_potential, potential_fits, at_most_same}
+use Rattle.gd_mincost.proofs.PotentialTests.{read_potential, potential_fits, at_most_same}
 use Rattle.gd_mincost.proofs.still.raises_none.Goals as goal
 
 pub improves-requires-clause-start : goal.improves-requires-clause-start

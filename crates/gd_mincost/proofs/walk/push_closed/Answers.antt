@@ -2,11 +2,11 @@ use Rattle.std.proofs.Common.{◌≡◌, ◌<◌, List, length, map, sym, subst,
 use Rattle.std.specs.Prelude.{ℤ, FitsSigned}
 use Rattle.std.proofs.lemmas.Int.{ints, to_z-of_z}
 use Rattle.std.specs.Int.{w64}
-use Rattle.gd_walks.specs.declared.Step.{Step}
-use Rattle.gd_walks.specs.Steps.{AreSteps}
+use Rattle.gd_network.specs.declared.walks.Step.{Step}
+use Rattle.gd_network.specs.Steps.{AreSteps}
 use Rattle.gd_labels.specs.Links.{node_at}
-use Rattle.gd_mincost.specs.Closed.{steps_along}
-use Rattle.gd_mincost.proofs.Along.{CanPush, can_push, along_is, along_gains, along_follows, trail_in, are_steps}
+use Rattle.gd_mincost.specs.ClosedWalks.{steps_along}
+use Rattle.gd_mincost.proofs.LinkWalks.{CanPush, can_push, along_is, along_gains, along_follows, trail_in, are_steps}
 use Rattle.gd_mincost.proofs.Value.{push_rises}
 use Rattle.gd_mincost.proofs.walk.push_closed.Goals as goal
 

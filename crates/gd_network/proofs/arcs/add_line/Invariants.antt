@@ -1,5 +1,5 @@
 use Rattle.gd_network.specs.Arcs.{tenth_arc}
-use Rattle.gd_network.specs.Holds.{FirstArcs}
+use Rattle.gd_network.specs.Entries.{FirstArcs}
 use Rattle.gd_network.proofs.arcs.add_line.Given as goal
 
 abbrev pub invariant-loop-tenth : goal.invariant-loop-tenth

@@ -1,5 +1,5 @@
 use Rattle.std.proofs.Common.{◌+◌, ◌*◌, length}
-use Rattle.gd_network.specs.Holds.{FirstArcs}
+use Rattle.gd_network.specs.Entries.{FirstArcs}
 use Rattle.gd_network.proofs.arcs.arcs_of.Given as goal
 
 abbrev pub invariant-loop-line : goal.invariant-loop-line

@@ -1,4 +1,4 @@
-use Rattle.gd_network.specs.Holds.{FirstArcs}
+use Rattle.gd_network.specs.Entries.{FirstArcs}
 use Rattle.gd_network.proofs.arcs.element_arcs.Given as goal
 
 abbrev pub invariant-loop-at : goal.invariant-loop-at

@@ -1,5 +1,5 @@
 use Rattle.gd_network.specs.Arcs.{tenth_arc}
-use Rattle.gd_network.specs.Holds.{FirstFlows}
+use Rattle.gd_network.specs.Entries.{FirstFlows}
 use Rattle.gd_network.proofs.flow.add_line.Given as goal
 
 abbrev pub invariant-loop-tenth : goal.invariant-loop-tenth

@@ -1,6 +1,6 @@
 use Rattle.std.proofs.Common.{take, ◌++◌, ◌∷◌, [], ◌<◌, ap, sym, ◌∙◌, subst}
-use Rattle.gd_network.specs.Begun.{brought}
-use Rattle.gd_network.proofs.Brought.{brought_more}
+use Rattle.gd_network.specs.Beginning.{brought}
+use Rattle.gd_network.proofs.Clamping.{brought_more}
 use Rattle.gd_network.proofs.flow.bring.Goals as goal
 
 pub loop-line-preserved : goal.loop-line-preserved

@@ -1,5 +1,5 @@
 use Rattle.std.proofs.Common.{◌≡◌, take}
-use Rattle.gd_network.specs.Begun.{brought}
+use Rattle.gd_network.specs.Beginning.{brought}
 use Rattle.gd_network.proofs.flow.bring.Given as goal
 
 abbrev pub invariant-loop-line : goal.invariant-loop-line

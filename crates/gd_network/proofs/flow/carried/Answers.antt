@@ -1,6 +1,6 @@
 use Rattle.std.proofs.Common.{◌≤◌, ◌∙◌, subst, arith}
 use Rattle.gd_rules.specs.Question.{line as asked_line}
-use Rattle.gd_network.proofs.Carried.{low, high, total}
+use Rattle.gd_network.proofs.LineFlows.{low, high, total}
 use Rattle.gd_network.proofs.flow.carried.Goals as goal
 
 pub carried_by-requires-clause-low : goal.carried_by-requires-clause-low

@@ -1,4 +1,4 @@
-use Rattle.gd_network.proofs.Summed.{IsSum}
+use Rattle.gd_network.proofs.LineSums.{IsSum}
 use Rattle.gd_network.proofs.flow.carried_by.Given as goal
 
 abbrev pub invariant-loop-tenth : goal.invariant-loop-tenth

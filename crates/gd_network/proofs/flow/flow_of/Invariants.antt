@@ -1,5 +1,5 @@
 use Rattle.std.proofs.Common.{◌+◌, ◌*◌, length}
-use Rattle.gd_network.specs.Holds.{FirstFlows}
+use Rattle.gd_network.specs.Entries.{FirstFlows}
 use Rattle.gd_network.proofs.flow.flow_of.Given as goal
 
 abbrev pub invariant-loop-line : goal.invariant-loop-line

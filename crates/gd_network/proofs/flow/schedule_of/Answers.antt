@@ -1,6 +1,6 @@
 use Rattle.std.proofs.Common.{◌≡◌, length, sym, subst, arith}
 use Rattle.gd_network.specs.Flow.{IsScheduleOf}
-use Rattle.gd_network.proofs.Summed.{Summed, summed_more, summed_all}
+use Rattle.gd_network.proofs.LineSums.{Summed, summed_more, summed_all}
 use Rattle.gd_network.proofs.flow.schedule_of.Goals as goal
 
 pub loop-line-preserved : goal.loop-line-preserved

@@ -1,4 +1,4 @@
-use Rattle.gd_network.proofs.Summed.{Summed}
+use Rattle.gd_network.proofs.LineSums.{Summed}
 use Rattle.gd_network.proofs.flow.schedule_of.Given as goal
 
 abbrev pub invariant-loop-line : goal.invariant-loop-line

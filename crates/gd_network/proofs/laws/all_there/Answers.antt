@@ -1,5 +1,5 @@
-use Rattle.gd_network.proofs.Made.{network_of, network_is, flow_of, flow_is, schedule_of, schedule_is, schedule_back}
-use Rattle.gd_network.proofs.Wired.{wired}
+use Rattle.gd_network.proofs.Networks.{network_of, network_is, flow_of, flow_is, schedule_of, schedule_is, schedule_back}
+use Rattle.gd_network.proofs.Wiring.{wired}
 use Rattle.gd_network.proofs.laws.all_there.Goals as goal
 
 pub returns-clause-network : goal.returns-clause-network

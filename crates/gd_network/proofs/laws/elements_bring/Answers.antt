@@ -1,4 +1,4 @@
-use Rattle.gd_network.proofs.Numbered.{ordered}
+use Rattle.gd_network.proofs.NodeNumbers.{ordered}
 use Rattle.gd_network.proofs.laws.elements_bring.Goals as goal
 
 pub returns : goal.returns

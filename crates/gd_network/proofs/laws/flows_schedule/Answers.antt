@@ -1,5 +1,5 @@
 use Rattle.gd_network.proofs.Allowed.{schedule_allowed}
-use Rattle.gd_network.proofs.Wired.{wired}
+use Rattle.gd_network.proofs.Wiring.{wired}
 use Rattle.gd_network.proofs.laws.flows_schedule.Goals as goal
 
 pub returns : goal.returns

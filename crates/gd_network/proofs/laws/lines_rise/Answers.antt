@@ -1,5 +1,7 @@
-use Rattle.gd_rules.specs.Words.{whole, tariff}
-use Rattle.gd_rules.proofs.Words.{whole_lawful, tariff_lawful}
+use Rattle.gd_scale.specs.Words.{whole}
+use Rattle.gd_rules.specs.Tariff.{tariff}
+use Rattle.gd_scale.proofs.Words.{whole_lawful}
+use Rattle.gd_rules.proofs.Tariff.{tariff_lawful}
 use Rattle.gd_schedule.proofs.Telescope.{line_rise}
 use Rattle.gd_network.proofs.laws.lines_rise.Goals as goal
 

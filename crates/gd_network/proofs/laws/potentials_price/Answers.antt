@@ -1,10 +1,10 @@
-use Rattle.gd_rules.specs.Words.{tariff, tariff_unit}
-use Rattle.gd_rules.proofs.Words.{tariff_lawful, tariff_falls}
+use Rattle.gd_rules.specs.Tariff.{tariff, tariff_unit}
+use Rattle.gd_rules.proofs.Tariff.{tariff_lawful, tariff_falls}
 use Rattle.gd_rules.proofs.Better.{prices_show_best}
 use Rattle.gd_network.proofs.Allowed.{schedule_allowed}
 use Rattle.gd_network.proofs.Prices.{priced}
-use Rattle.gd_network.proofs.Made.{prices_of, prices_are}
-use Rattle.gd_network.proofs.Wired.{wired}
+use Rattle.gd_network.proofs.Networks.{prices_of, prices_are}
+use Rattle.gd_network.proofs.Wiring.{wired}
 use Rattle.gd_network.proofs.laws.potentials_price.Goals as goal
 
 pub returns-clause-priced : goal.returns-clause-priced

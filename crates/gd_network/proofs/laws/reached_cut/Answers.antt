@@ -1,6 +1,6 @@
 use Rattle.gd_network.proofs.Edge as Edge
 use Rattle.gd_network.proofs.Marks.{side_is}
-use Rattle.gd_network.proofs.Wired.{wired}
+use Rattle.gd_network.proofs.Wiring.{wired}
 use Rattle.gd_network.proofs.laws.reached_cut.Goals as goal
 
 pub returns-clause-side : goal.returns-clause-side

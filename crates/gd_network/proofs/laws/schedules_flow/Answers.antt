@@ -1,6 +1,6 @@
 use Rattle.gd_network.proofs.Balance.{flow_balances}
 use Rattle.gd_network.proofs.Allowed.{flow_within}
-use Rattle.gd_network.proofs.Wired.{wired}
+use Rattle.gd_network.proofs.Wiring.{wired}
 use Rattle.gd_network.proofs.laws.schedules_flow.Goals as goal
 
 pub returns-clause-balances : goal.returns-clause-balances

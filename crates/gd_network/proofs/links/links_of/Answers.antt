@@ -1,7 +1,7 @@
 use Rattle.std.proofs.Common.{refl, sym, ◌∙◌}
 use Rattle.std.proofs.lemmas.List.{length-map}
 use Rattle.gd_network.specs.Links.{lists}
-use Rattle.gd_network.proofs.Linked.{links_more}
+use Rattle.gd_network.proofs.LinkLists.{links_more}
 use Rattle.gd_network.proofs.links.links_of.Goals as goal
 
 pub loop-number-preserved : goal.loop-number-preserved

@@ -1,4 +1,4 @@
-use Rattle.gd_network.proofs.Linked.{noted}
+use Rattle.gd_network.proofs.LinkLists.{noted}
 use Rattle.gd_network.proofs.links.note.Goals as goal
 
 pub returns-clause-noted : goal.returns-clause-noted

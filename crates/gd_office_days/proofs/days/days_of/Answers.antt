@@ -4,8 +4,8 @@ use Rattle.std.proofs.Common.{◌+◌, ◌∙◌, ◌∷◌, ◌++◌, [], Bool,
 use Rattle.std.proofs.lemmas.List.{map-append}
 use Rattle.std.proofs.lemmas.List.Elements.{All-push}
 use Rattle.gd_rules.specs.Lines.{same_key}
-use Rattle.gd_day.specs.Carried.{keys}
-use Rattle.gd_day.specs.Opened.{Opened}
+use Rattle.gd_day.specs.Carrying.{keys}
+use Rattle.gd_day.specs.Opening.{Opened}
 use Rattle.gd_day.specs.declared.text.DayText.{DayText}
 use Rattle.gd_office_days.specs.Blocks.{Block}
 use Rattle.gd_office_days.specs.Days.{opened, opened_in, opened_after, days_of}

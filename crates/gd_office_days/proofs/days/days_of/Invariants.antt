@@ -2,7 +2,7 @@ use Rattle.std.specs.Prelude.{map}
 use Rattle.std.specs.List.{IsDistinct, All}
 use Rattle.std.proofs.Common.{◌≡◌, ◌≤◌, length}
 use Rattle.gd_rules.specs.Lines.{same_key}
-use Rattle.gd_day.specs.Carried.{keys}
+use Rattle.gd_day.specs.Carrying.{keys}
 use Rattle.gd_office_days.specs.Days.{opened, opened_after, days_of}
 use Rattle.gd_office_days.proofs.Cutting.{blocks_left}
 use Rattle.gd_office_days.proofs.days.days_of.Given as goal

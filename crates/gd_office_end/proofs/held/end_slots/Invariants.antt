@@ -8,5 +8,5 @@ invariant-loop-at g l =
       of : IsOf l.slots l.held;
       len : length l.ends.items ≡ l.at;
       left : (k : ℕ) → l.at ≤ k → share_at l.held k ≡ share_at l.fn.held k;
-      ends : EndFrom (share_at l.fn.held) 0 l.ends.items;
+      ends : EndFrom g.J.Days.days (share_at l.fn.held) 0 l.ends.items;
     }

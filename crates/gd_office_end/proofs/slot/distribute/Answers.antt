@@ -1,7 +1,7 @@
 use Rattle.std.proofs.Common.{◌≡◌, [], ◌++◌, drop, sym, ap, ◌∙◌, arith, get_or}
 use Rattle.std.proofs.lemmas.List.{append-nil, nil_from_length}
 use Rattle.std.specs.Vec.Iter.{into_iter_items}
-use Rattle.gd_office_end.specs.Picked.{pick}
+use Rattle.gd_office_end.specs.Picking.{pick}
 use Rattle.gd_office_end.proofs.Picking.{pick_none}
 use Rattle.gd_office_end.proofs.slot.distribute.Goals as goal
 

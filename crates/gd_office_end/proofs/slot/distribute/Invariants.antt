@@ -1,7 +1,7 @@
 use Rattle.std.proofs.Common.{◌≡◌, ℕ, ◌+◌, ◌<◌, ◌++◌, length, get_or, drop}
 use Rattle.std.specs.Vec.Iter.{into_iter_items, into_iter_len}
 use Rattle.std.specs.Global.{Vec}
-use Rattle.gd_office_end.specs.Picked.{pick}
+use Rattle.gd_office_end.specs.Picking.{pick}
 use Rattle.gd_office_end.proofs.slot.distribute.Given as goal
 
 -- What a slot has, with what it will have of the items that are left.

@@ -1,5 +1,5 @@
 use Rattle.std.proofs.Common.{◌≡◌, length}
-use Rattle.gd_office_end.specs.Picked.{AreEmpty}
+use Rattle.gd_office_end.specs.Picking.{AreEmpty}
 use Rattle.gd_office_end.proofs.slot.lists_for.Given as goal
 
 abbrev pub invariant-loop-at : goal.invariant-loop-at

@@ -3,7 +3,7 @@ use Rattle.std.proofs.Math.ListN.{set}
 use Rattle.std.proofs.Math.Seq.{map-set_same}
 use Rattle.std.proofs.lemmas.List.{take_more, take_more_set, map-append}
 use Rattle.gd_office_part.specs.declared.numbers.Numbers.{Numbers}
-use Rattle.gd_office_part.specs.declared.session.Session.{Session}
+use Rattle.gd_office_part.specs.Seen.{Session}
 use Rattle.gd_office_part.specs.Sending.{kept_of}
 use Rattle.gd_office_part.proofs.threads.count_all.Goals as goal
 
@@ -19,7 +19,9 @@ numbers_more sessions numbers at s n within inside is before =
     ∙ sym (take_more numbers at n inside)
 
 pub loop-at-preserved : goal.loop-at-preserved
-loop-at-preserved c = record {
-  numbers = numbers_more c.loop-at.sessions c.args.numbers.now c.loop-at.at _ _ (omega arith) (omega arith) refl c.loop-at.invariant.numbers;
-  kept = map-set_same kept_of c.loop-at.sessions c.loop-at.at _ c.index-sessions-at.result refl ∙ c.loop-at.invariant.kept;
-}
+loop-at-preserved g c =
+    let count = c.count.ensures in
+    record {
+      numbers = numbers_more c.loop-at.sessions c.args.numbers.now c.loop-at.at _ _ (omega arith) (omega arith) (count.numbers) c.loop-at.invariant.numbers;
+      kept = map-set_same kept_of c.loop-at.sessions c.loop-at.at _ c.index-sessions-at.result count.kept ∙ c.loop-at.invariant.kept;
+    }

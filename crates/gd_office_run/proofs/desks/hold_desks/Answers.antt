@@ -7,7 +7,7 @@ use Rattle.gd_office_run.proofs.Shares.{desk_step, desk_end}
 use Rattle.gd_office_run.proofs.desks.hold_desks.Goals as goal
 
 pub loop-desk-preserved-in_ok-take_desk : goal.loop-desk-preserved-in_ok-take_desk
-loop-desk-preserved-in_ok-take_desk c =
+loop-desk-preserved-in_ok-take_desk g c =
     let step = c.in-Some.ensures.steps in
     let at = c.loop-desk.at in let left = c.loop-desk.invariant.left in
     let items : into_iter_items c.loop-desk.desk-iterator ≡ c.in-Some.desk ∷ into_iter_items c.next.new.self = search rules in
@@ -23,7 +23,7 @@ loop-desk-preserved-in_ok-take_desk c =
     }
 
 pub loop-desk-preserved : goal.loop-desk-preserved
-loop-desk-preserved c =
+loop-desk-preserved g c =
     let step = c.in-Some.ensures.steps in
     let at = c.loop-desk.at in let left = c.loop-desk.invariant.left in
     let items : into_iter_items c.loop-desk.desk-iterator ≡ c.in-Some.desk ∷ into_iter_items c.next.new.self = search rules in
@@ -39,7 +39,7 @@ loop-desk-preserved c =
     }
 
 pub returns : goal.returns
-returns c slots of =
+returns g c slots of =
     let end : into_iter_items c.loop-desk.desk-iterator ≡ [] =
     let s = c.in-None.ensures.steps.0 in let o = c.loop-desk.desk-iterator.rest.ok in nil_from_length (into_iter_items c.loop-desk.desk-iterator) (omega arith) in
     let was = c.loop-desk.invariant.held slots of in (

@@ -6,7 +6,7 @@ use Rattle.gd_office_run.proofs.desks.hold_desks.Given as goal
 
 -- What a slot has, with what it will have of the desks that are left.
 abbrev pub invariant-loop-desk : goal.invariant-loop-desk
-invariant-loop-desk l =
+invariant-loop-desk g l =
     record {
       left : l.at + into_iter_len l.desk-iterator ≡ vec_len l.fn.desks;
       held : (slots : ℕ) → IsOf slots l.fn.held

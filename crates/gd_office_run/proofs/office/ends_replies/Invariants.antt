@@ -1,5 +1,5 @@
 use Rattle.std.proofs.Common.{◌≡◌, ◌+◌, ◌++◌, drop}
-use Rattle.gd_office_run.specs.Told.{ends_rows}
+use Rattle.gd_office_run.specs.RunRows.{ends_rows}
 use Rattle.gd_office_run.proofs.office.ends_replies.Given as goal
 
 -- What was told, with what is left to tell.

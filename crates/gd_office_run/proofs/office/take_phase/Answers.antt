@@ -1,7 +1,12 @@
 use Rattle.std.proofs.Common.{◌≡◌, ◌∙◌, ◌++◌, List, length, ap}
 use Rattle.gd_office_part.specs.Sending.{lists_of}
 use Rattle.gd_replies.specs.declared.reply.Reply.{Reply}
+use Rattle.gd_office_run.proofs.Shapes.{shaped}
 use Rattle.gd_office_run.proofs.office.take_phase.Goals as goal
+
+pub rows_of-requires-clause-each : goal.rows_of-requires-clause-each
+rows_of-requires-clause-each g c =
+    shaped g.J.Days.days 1 c.args.phase.now.moment c.in_ok-given.given.desks.items c.in_ok-given.ensures.gives.1
 
 pub returns-clause-ok : goal.returns-clause-ok
 returns-clause-ok g c =

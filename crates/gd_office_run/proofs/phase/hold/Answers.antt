@@ -12,11 +12,11 @@ use Rattle.gd_office_run.proofs.Shares.{plus_assoc, sessions_are}
 use Rattle.gd_office_run.proofs.phase.hold.Goals as goal
 
 pub take_sessions-requires-clause-numbers : goal.take_sessions-requires-clause-numbers
-take_sessions-requires-clause-numbers c =
+take_sessions-requires-clause-numbers g c =
     ap length c.in_ok-numbers.ensures ∙ length-range_with_len c.args.first c.len.result ∙ (let l = c.len.ensures in let e = c.requires.each in let a = c.as_slice.ensures.len in search rules)
 
 pub returns : goal.returns
-returns c slots of =
+returns g c slots of =
     let a = c.in_ok-take_sessions.ensures slots of in let b = c.in_ok-hold_desks.ensures slots a.0 in
     let given = c.args.given in let lists = lists_of given.lists.items in
     let long : c.len.result ≡ length (lists_of c.args.given.lists.items) = let mapped = length-map c.args.given.lists.items (λ (v : Vec Receipt). v.items) in let l = c.len.ensures in search rules in

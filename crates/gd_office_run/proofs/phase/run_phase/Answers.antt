@@ -1,5 +1,5 @@
 use Rattle.std.proofs.Common.{◌≡◌, ◌∙◌, List, map, ap, rules}
-use Rattle.gd_office_part.specs.declared.session.Session.{Session}
+use Rattle.gd_office_part.specs.Seen.{Session}
 use Rattle.gd_office_part.specs.Sending.{lists_of}
 use Rattle.gd_office_run.proofs.Opening.{receipts_of, counts_are, as_many, written}
 use Rattle.gd_office_run.proofs.phase.run_phase.Goals as goal
@@ -10,7 +10,7 @@ returns-clause-gives g c =
     let lists = lists_of c.in_ok-lists.lists.items in
     let mine = receipts_of c.in_ok-sessions.sessions.items c.as_slice-rows.result.now lists c.in_ok-sessions.ensures sent in (
       rw c.as_slice-rows.ensures.value at mine,
-      c.in_ok-desks.ensures.each,
+      c.in_ok-desks.ensures.each g.J.Days.days c.args.phase.now.moment c.in_ok-given.ensures.each,
       (let a = c.in_ok-desks.ensures.len in let b = c.in_ok-given.ensures.len in search rules),
     )
 

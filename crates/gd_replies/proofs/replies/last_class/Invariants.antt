@@ -1,6 +1,6 @@
 use Rattle.std.proofs.Common.{◌≡◌, ◌≤◌}
 use Rattle.std.specs.Prelude.{max}
-use Rattle.gd_rules.specs.Sum.{sum_below}
+use Rattle.gd_scale.specs.Sum.{sum_below}
 use Rattle.gd_rules.specs.Question.{line}
 use Rattle.gd_replies.proofs.replies.last_class.Given as goal
 

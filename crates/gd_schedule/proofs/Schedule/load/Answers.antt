@@ -1,7 +1,7 @@
 use Rattle.std.proofs.Common.{rules, ℕ, pos, ◌+ℤ◌, ◌*ℤ◌, ◌+◌, ◌*◌, ◌<◌, w64, to_z, arith, ap, ◌∙◌, ℤ, add-one}
 use mir.Val.{SFits}
 use Rattle.std.proofs.lemmas.Int.{to_z-of_z}
-use Rattle.gd_rules.specs.Sum.{sum_int}
+use Rattle.gd_scale.specs.Sum.{sum_int}
 use Rattle.gd_rules.specs.Question.{crossing}
 use Rattle.gd_rules.specs.Schedule.{quantity}
 use Rattle.gd_schedule.specs.Sizes.{IsSized}

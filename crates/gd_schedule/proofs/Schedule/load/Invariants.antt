@@ -1,6 +1,6 @@
 use Rattle.std.proofs.Common.{◌≡◌, ◌*◌}
 use Rattle.std.specs.Prelude.{pos, ◌*ℤ◌}
-use Rattle.gd_rules.specs.Sum.{sum_int}
+use Rattle.gd_scale.specs.Sum.{sum_int}
 use Rattle.gd_rules.specs.Question.{crossing}
 use Rattle.gd_rules.specs.Schedule.{quantity}
 use Rattle.gd_schedule.specs.Sizes.{IsSized}

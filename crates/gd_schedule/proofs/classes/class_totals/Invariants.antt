@@ -1,6 +1,6 @@
 use Rattle.std.proofs.Common.{ℕ, ◌≤◌, ◌*◌, ◌-◌, get_or}
 use Rattle.std.specs.Prelude.{if◌then◌else◌, ◌==◌}
-use Rattle.gd_rules.specs.Sum.{sum_nat}
+use Rattle.gd_scale.specs.Sum.{sum_nat}
 use Rattle.gd_rules.specs.Question.{line}
 use Rattle.gd_rules.specs.Schedule.{quantity}
 use Rattle.gd_schedule.specs.Order.{IsByClass}

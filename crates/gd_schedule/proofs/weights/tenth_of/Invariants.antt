@@ -1,6 +1,6 @@
 use Rattle.std.proofs.Common.{◌≡◌, ◌≤◌}
 use Rattle.std.specs.Prelude.{if◌then◌else◌, nat_lt}
-use Rattle.gd_rules.specs.Sum.{sum_nat}
+use Rattle.gd_scale.specs.Sum.{sum_nat}
 use Rattle.gd_rules.specs.Spread.{tenth_end}
 use Rattle.gd_schedule.proofs.weights.tenth_of.Given as goal
 

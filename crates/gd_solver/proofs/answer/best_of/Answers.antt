@@ -3,16 +3,16 @@ use Rattle.std.specs.Prelude.{pos}
 use Rattle.std.proofs.lemmas.List.{length-map}
 use Rattle.gd_rules.specs.Schedule.{IsAllowed}
 use Rattle.gd_rules.specs.Spread.{IsBest}
-use Rattle.gd_rules.specs.Tariff.{IsPricedByTariff}
-use Rattle.gd_rules.specs.Words.{tariff, tariff_unit, words_fit, both_fit}
+use Rattle.gd_rules.specs.Tariff.{IsPricedByTariff, tariff, tariff_unit}
+use Rattle.gd_scale.specs.Words.{words_fit, both_fit}
 use Rattle.gd_rules.proofs.ByClass.{pair_unit_is}
 use Rattle.gd_cost.specs.Parts.{class_words}
 use Rattle.gd_cost.specs.declared.lex.Lex.{Lex}
 use Rattle.gd_cost.specs.declared.pair.Pair.{Pair}
-use Rattle.gd_question.specs.Posed.{Posed}
+use Rattle.gd_question.specs.Posing.{Posed}
 use Rattle.gd_network.specs.Arcs.{Net}
-use Rattle.gd_mincost.specs.Settled.{IsSettled, potential}
-use Rattle.gd_solver.proofs.Solved.{gain_of, gains, by_tariff}
+use Rattle.gd_mincost.specs.Settling.{IsSettled, potential}
+use Rattle.gd_solver.proofs.Solutions.{gain_of, gains, by_tariff}
 use Rattle.gd_solver.proofs.answer.best_of.Goals as goal
 
 pub prices_of-requires-clause-small : goal.prices_of-requires-clause-small

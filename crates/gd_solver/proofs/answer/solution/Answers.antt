@@ -1,7 +1,7 @@
 use Rattle.std.proofs.Common.{subst}
 use Rattle.gd_rules.proofs.Cuts.{cut_forbids}
 use Rattle.gd_certificate.specs.Cutting.{side_of}
-use Rattle.gd_flow.specs.Repaired.{Repairs}
+use Rattle.gd_flow.specs.Repair.{Repairs}
 use Rattle.gd_solver.proofs.answer.solution.Goals as goal
 
 pub returns-in-Impossible : goal.returns-in-Impossible

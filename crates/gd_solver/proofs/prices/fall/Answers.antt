@@ -3,7 +3,7 @@ use Rattle.std.specs.Prelude.{pos}
 use Rattle.std.proofs.lemmas.List.{length-map}
 use Rattle.gd_network.specs.declared.arcs.Arc.{Arc}
 use Rattle.gd_network.specs.Arcs.{from_at, to_at}
-use Rattle.gd_solver.proofs.Falls.{is_small, fall_small, read}
+use Rattle.gd_solver.proofs.PotentialFalls.{is_small, fall_small, read}
 use Rattle.gd_solver.proofs.prices.fall.Goals as goal
 
 pub sub-requires-clause-left : goal.sub-requires-clause-left

@@ -1,9 +1,9 @@
 use Rattle.std.proofs.Common.{◌≡◌, ℕ, ◌+◌, ◌<◌, ◌^◌, ◌++◌, ◌∷◌, [], List, length, map, get_or, IsTrue, subst, sym, ap, ◌∙◌}
 use Rattle.std.specs.Prelude.{pos}
-use Rattle.gd_rules.specs.Scale.{Scale, less}
+use Rattle.gd_scale.specs.Scale.{Scale, less}
 use Rattle.gd_question.specs.Nodes.{start, stop}
-use Rattle.gd_mincost.specs.Settled.{potential}
-use Rattle.gd_solver.proofs.Falls.{each_with, map_with, length_with}
+use Rattle.gd_mincost.specs.Settling.{potential}
+use Rattle.gd_solver.proofs.PotentialFalls.{each_with, map_with, length_with}
 use Rattle.gd_solver.proofs.prices.prices_of.Goals as goal
 
 pub loop-element-preserved : goal.loop-element-preserved

@@ -1,4 +1,4 @@
-use Rattle.gd_system.proofs.Told.{told_route, told_parted}
+use Rattle.gd_system.proofs.NamedEnds.{told_route, told_parted}
 use Rattle.gd_system.proofs.route.routes_are.Goals as goal
 
 pub returns-clause-one : goal.returns-clause-one

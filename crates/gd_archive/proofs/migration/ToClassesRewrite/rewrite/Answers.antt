@@ -3,7 +3,7 @@ use Rattle.sqlite.specs.Order.{column}
 use Rattle.sqlite_value.specs.Value.{owned}
 use Rattle.gd_body.specs.Body.{IsBody}
 use Rattle.gd_body.specs.Spread.{without_spread}
-use Rattle.gd_archive.specs.Sound.{posting_at}
+use Rattle.gd_archive.specs.Soundness.{posting_at}
 use Rattle.gd_archive.proofs.Kept.{at_row, is_carried}
 use Rattle.gd_archive.proofs.migration.ToClassesRewrite.rewrite.Goals as goal
 

@@ -1,6 +1,6 @@
 use Rattle.std.proofs.Common.{subst}
 use Rattle.gd_book.specs.Kept.{Kept}
-use Rattle.gd_book.specs.Posted.{AllPosted}
+use Rattle.gd_book.specs.Postings.{AllPosted}
 use Rattle.gd_book.proofs.book.Book.publish.Goals as goal
 
 pub returns-clause-all_posted : goal.returns-clause-all_posted

@@ -3,7 +3,7 @@ use Rattle.gd_machine.specs.Day.{Day}
 use Rattle.gd_machine.specs.declared.event.Event.{Event}
 use Rattle.gd_machine.specs.declared.reply.Reply.{Reply}
 use Rattle.gd_machine.specs.History.{History}
-use Rattle.gd_book.specs.Posted.{AllPosted}
+use Rattle.gd_book.specs.Postings.{AllPosted}
 use Rattle.gd_book.proofs.Legal.{refused}
 use Rattle.gd_book.proofs.Posting.{all_more, all_stay}
 use Rattle.gd_book.proofs.ledger.Ledger.publish.Goals as goal

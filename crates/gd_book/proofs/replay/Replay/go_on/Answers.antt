@@ -1,6 +1,6 @@
 use Rattle.std.proofs.Common.{◌<◌, length, sym, subst, arith}
 use Rattle.gd_machine.proofs.Sound.{prefix_sound}
-use Rattle.gd_book.specs.Replayed.{Place}
+use Rattle.gd_book.specs.Replay.{Place}
 use Rattle.gd_book.proofs.Replaying.{accepted_at, replayed_more}
 use Rattle.gd_book.proofs.replay.Replay.go_on.Goals as goal
 

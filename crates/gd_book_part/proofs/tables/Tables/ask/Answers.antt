@@ -2,8 +2,8 @@ use Rattle.std.proofs.Common.{◌≡◌, ◌<◌, length, refl, sym, ap, subst, 
 use Rattle.std.specs.Prelude.{IsOk}
 use Rattle.std.proofs.lemmas.List.FromFn.{length-map-range_with_len}
 use Rattle.gd_system.specs.Route.{ends_of}
-use Rattle.gd_question.specs.Posed.{Posed}
-use Rattle.gd_machine.specs.Asked.{line_count, line_of, line_over}
+use Rattle.gd_question.specs.Posing.{Posed}
+use Rattle.gd_machine.specs.Asking.{line_count, line_of, line_over}
 use Rattle.gd_machine.specs.Known.{IsRouted}
 use Rattle.gd_machine.proofs.Flowing.{key_holds}
 use Rattle.gd_book_part.specs.Asking.{with_line, asked_until}
@@ -14,7 +14,7 @@ pub loop-line-preserved : goal.loop-line-preserved
 loop-line-preserved c =
     let terms = c.terms_of-terms.result in
     let told = c.terms_of-terms.ensures in
-    c.in_ok-put_line.ensures
+    c.in-Ok.ensures
     ∙ ap (λ (q : Posed). with_line q (line_over q.pipeline (ends_of q.pipeline terms.key.origin terms.key.dest) terms.class terms.floor terms.ceiling)) c.loop-line.invariant
     ∙ asked_more c.args.opening.now c.args.history.now c.args.round c.loop-line.line terms.key terms.class terms.floor terms.ceiling told.key told.class told.floor told.ceiling
 

@@ -3,7 +3,7 @@ use Rattle.std.specs.Prelude.{filter, if◌then◌else◌}
 use Rattle.std.specs.List.{range_with_len}
 use Rattle.std.proofs.lemmas.List.Elements.{filter-append}
 use Rattle.std.proofs.lemmas.List.FromFn.{map-range_with_len_more}
-use Rattle.gd_machine.specs.Asked.{bumped_by, line_count}
+use Rattle.gd_machine.specs.Asking.{bumped_by, line_count}
 use Rattle.gd_book_part.proofs.tables.Tables.bumped_lines.Goals as goal
 
 -- one line more

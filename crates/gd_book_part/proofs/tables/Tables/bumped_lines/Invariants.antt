@@ -1,7 +1,7 @@
 use Rattle.std.proofs.Common.{◌≡◌, nat_lt, map}
 use Rattle.std.specs.Prelude.{filter}
 use Rattle.std.specs.List.{range_with_len}
-use Rattle.gd_machine.specs.Asked.{bumped_by}
+use Rattle.gd_machine.specs.Asking.{bumped_by}
 use Rattle.gd_book_part.proofs.tables.Tables.bumped_lines.Given as goal
 
 -- The bumped lines so far.

@@ -1,5 +1,5 @@
 use Rattle.std.proofs.Common.{ℕ, ◌+◌, ap, ◌∙◌}
-use Rattle.gd_machine.specs.Asked.{question}
+use Rattle.gd_machine.specs.Asking.{question}
 use Rattle.gd_book_part.proofs.Freezing.{freeze_more}
 use Rattle.gd_book_part.proofs.tables.Tables.freeze.Goals as goal
 

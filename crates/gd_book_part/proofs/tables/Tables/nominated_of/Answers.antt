@@ -1,6 +1,6 @@
 use Rattle.std.proofs.Common.{ℕ, List, length, ap, ◌∙◌, arith}
 use Rattle.gd_rules.specs.Lines.{Nomination, lines_of, line_key, of_line, until, last_quantity}
-use Rattle.gd_machine.specs.Asked.{nominations}
+use Rattle.gd_machine.specs.Asking.{nominations}
 use Rattle.gd_book_part.proofs.Asking.{nominated_is}
 use Rattle.gd_book_part.proofs.tables.Tables.nominated_of.Goals as goal
 

@@ -1,6 +1,6 @@
 use Rattle.std.proofs.Common.{Bool, sym, ap, subst, ◌∙◌}
 use Rattle.gd_rules.specs.Bounds as bounds
-use Rattle.gd_machine.specs.Asked.{class_in}
+use Rattle.gd_machine.specs.Asking.{class_in}
 use Rattle.gd_machine.specs.Known.{IsClassed}
 use Rattle.gd_machine.proofs.Flowing.{key_holds}
 use Rattle.gd_book_part.proofs.tables.Tables.terms_of.Goals as goal

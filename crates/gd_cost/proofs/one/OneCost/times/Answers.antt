@@ -2,7 +2,7 @@ use Rattle.std.proofs.Common.{◌≡◌, ◌*ℤ◌, sym, ◌∙◌, rules}
 use mir.Syntax.{w128, w64}
 use mir.Val.{SFits}
 use Rattle.std.proofs.lemmas.Int.{to_z-of_z}
-use Rattle.gd_rules.proofs.Bounds.{whole_multiple}
+use Rattle.gd_scale.proofs.Bounds.{whole_multiple}
 use Rattle.gd_cost.proofs.one.OneCost.times.Goals as goal
 
 pub returns : goal.returns

@@ -1,7 +1,7 @@
 use Rattle.std.proofs.Common.{◌<◌, ◌≤◌, length, sym, ◌∙◌, false, arith}
 use Rattle.std.proofs.lemmas.Bool.{false≢true}
 use Rattle.std.proofs.lemmas.List.{get_or_read}
-use Rattle.gd_flow.proofs.Found.{search_started}
+use Rattle.gd_flow.proofs.Reach.{search_started}
 use Rattle.gd_flow.proofs.search.Search.run.Goals as goal
 use Rattle.gd_flow.proofs.search.Search.run.Goals.{then-loop-at-test+else-not-index, else-loop-at-test}
 

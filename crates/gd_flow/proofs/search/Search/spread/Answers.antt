@@ -1,10 +1,10 @@
 use Rattle.std.proofs.Common.{◌≡◌, ◌<◌, ◌≤◌, length, get_or, sym, ◌∙◌, ap, subst, true, false, arith, inl, inr}
 use Rattle.std.proofs.lemmas.Bool.{cases_lt}
 use Rattle.std.proofs.lemmas.List.{get_or_read}
-use Rattle.gd_walks.specs.declared.Step.{Step}
+use Rattle.gd_network.specs.declared.walks.Step.{Step}
 use Rattle.gd_flow.specs.declared.search.Find.{Find}
 use Rattle.gd_flow.specs.Search.{no_find, IsTried}
-use Rattle.gd_flow.proofs.Found.{marked_past, grows_on, tried_on}
+use Rattle.gd_flow.proofs.Reach.{marked_past, grows_on, tried_on}
 use Rattle.gd_flow.proofs.Linking.{links_within, links_all, both_ways}
 use Rattle.gd_flow.proofs.search.Search.spread.Goals as goal
 

@@ -1,5 +1,5 @@
 use Rattle.std.proofs.Common.{◌≡◌, ℕ, ◌<◌, get_or}
-use Rattle.gd_walks.specs.declared.Step.{Step}
+use Rattle.gd_network.specs.declared.walks.Step.{Step}
 use Rattle.gd_flow.specs.Search.{IsSearch, Grows, IsTried}
 use Rattle.gd_flow.proofs.search.Search.spread.Given as goal
 

@@ -3,7 +3,7 @@ use Rattle.std.proofs.lemmas.Int.{ints, to_z-of_z}
 use Rattle.std.proofs.lemmas.List.{get_or_read}
 use Rattle.gd_flow.specs.declared.search.Find.{Find}
 use Rattle.gd_flow.specs.Search.{no_find}
-use Rattle.gd_flow.proofs.Found.{push_search}
+use Rattle.gd_flow.proofs.Reach.{push_search}
 use Rattle.gd_flow.proofs.Linking.{head_within}
 use Rattle.gd_flow.proofs.search.Search.take.Goals as goal
 

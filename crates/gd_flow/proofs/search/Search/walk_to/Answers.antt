@@ -1,9 +1,9 @@
 use Rattle.std.proofs.Common.{List, [], ◌∷◌, reverse, sym, subst, arith}
 use Rattle.std.proofs.lemmas.List.{get_or_read, reverse-append}
-use Rattle.gd_walks.specs.declared.Step.{Step}
+use Rattle.gd_network.specs.declared.walks.Step.{Step}
 use Rattle.gd_flow.specs.declared.search.Find.{Find}
 use Rattle.gd_flow.specs.Search.{no_find, Closes}
-use Rattle.gd_flow.proofs.Back.{IsBack, back_more, back_closes}
+use Rattle.gd_flow.proofs.WayBack.{IsBack, back_more, back_closes}
 use Rattle.gd_flow.proofs.search.Search.walk_to.Goals as goal
 
 pub loop-at-preserved : goal.loop-at-preserved

@@ -1,5 +1,5 @@
 use Rattle.std.proofs.Common.{reverse}
-use Rattle.gd_flow.proofs.Back.{IsBack}
+use Rattle.gd_flow.proofs.WayBack.{IsBack}
 use Rattle.gd_flow.proofs.search.Search.walk_to.Given as goal
 
 abbrev pub invariant-loop-at : goal.invariant-loop-at

@@ -5,7 +5,7 @@ use Rattle.std.specs.List.{position}
 use Rattle.gd_rules.specs.Lines.{Nomination, same_name, same_key, lines_of, find, nominated}
 use Rattle.gd_lines.specs.Kept.{nomination_of, AreKept}
 use Rattle.gd_lines.specs.LinesInside.{accepted_of, sum_in}
-use Rattle.gd_lines.specs.Numbered.{numbered, nomination}
+use Rattle.gd_lines.specs.Numbering.{numbered, nomination}
 use Rattle.gd_lines.specs.declared.state.Accepted.{Accepted}
 use Rattle.gd_lines.proofs.After.{last_within, sum_small, former_last, kept_then, keyed_then, listed}
 use Rattle.gd_lines.proofs.Accept.{entered_by, found_at}

@@ -2,8 +2,8 @@ use Rattle.std.proofs.Common.{◌≡◌, ◌<◌, List, length, map, sym, ap, �
 use Rattle.std.specs.Prelude.{pos, ◌<ℤ◌, FitsSigned}
 use Rattle.std.specs.Int.{w64}
 use Rattle.std.proofs.lemmas.Result.{on_ok_weaker}
-use Rattle.gd_rules.proofs.Group.{neutral_left}
-use Rattle.gd_walks.specs.Steps.{room}
+use Rattle.gd_scale.proofs.Group.{neutral_left}
+use Rattle.gd_network.specs.Steps.{room}
 use Rattle.gd_mincost.specs.Gains.{gain_at}
 use Rattle.gd_mincost.specs.Residual.{Holds, IsLink}
 use Rattle.gd_mincost.proofs.Table.{read, on_ok_all, pushed_meanings}

@@ -3,10 +3,10 @@ use Rattle.gd_network.specs.Flow.{IsFlowOf}
 use Rattle.gd_network.specs.Arcs.{Net}
 use Rattle.gd_network.specs.Links.{AreLinks, lists}
 use Rattle.gd_network.proofs.Balance.{flow_balances}
-use Rattle.gd_network.proofs.Brought.{length_brought}
-use Rattle.gd_network.proofs.Built.{arcs_all, flows_all}
-use Rattle.gd_network.proofs.Numbered.{is_first}
-use Rattle.gd_network.proofs.Wired.{wired}
+use Rattle.gd_network.proofs.Clamping.{length_brought}
+use Rattle.gd_network.proofs.Building.{arcs_all, flows_all}
+use Rattle.gd_network.proofs.NodeNumbers.{is_first}
+use Rattle.gd_network.proofs.Wiring.{wired}
 use Rattle.gd_network.proofs.network.Network.at.Goals as goal
 
 pub flow_of-requires : goal.flow_of-requires

@@ -1,16 +1,16 @@
 use Rattle.std.proofs.Common.{◌+◌, ◌*◌, ◌<◌, length, sym, subst}
 use Rattle.std.specs.Prelude.{IfOk}
 use Rattle.gd_rules.specs.Schedule.{IsAllowed}
-use Rattle.gd_network.specs.Begun.{Laid, IsFirst}
+use Rattle.gd_network.specs.Beginning.{Laid, IsFirst}
 use Rattle.gd_network.specs.Flow.{IsCirculation, IsWithin, IsFlowOf, IsScheduleOf}
-use Rattle.gd_network.specs.Holds.{FirstFlows}
+use Rattle.gd_network.specs.Entries.{FirstFlows}
 use Rattle.gd_network.proofs.Allowed.{flow_within}
 use Rattle.gd_network.proofs.Balance.{flow_balances}
-use Rattle.gd_network.proofs.Built.{flows_all}
-use Rattle.gd_network.proofs.Carried.{ok_then}
-use Rattle.gd_network.proofs.Made.{schedule_back}
-use Rattle.gd_network.proofs.Numbered.{is_first}
-use Rattle.gd_network.proofs.Wired.{wired}
+use Rattle.gd_network.proofs.Building.{flows_all}
+use Rattle.gd_network.proofs.LineFlows.{ok_then}
+use Rattle.gd_network.proofs.Networks.{schedule_back}
+use Rattle.gd_network.proofs.NodeNumbers.{is_first}
+use Rattle.gd_network.proofs.Wiring.{wired}
 use Rattle.gd_network.proofs.network.Network.flow_of.Goals as goal
 
 pub returns-clause-flow : goal.returns-clause-flow

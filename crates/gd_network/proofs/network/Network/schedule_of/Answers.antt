@@ -1,12 +1,12 @@
 use Rattle.std.proofs.Common.{◌≡◌, ℕ, ◌<◌, length, subst}
 use Rattle.std.specs.Prelude.{IfOk}
 use Rattle.gd_rules.specs.Schedule.{IsAllowed, load}
-use Rattle.gd_network.specs.Begun.{Laid}
+use Rattle.gd_network.specs.Beginning.{Laid}
 use Rattle.gd_network.specs.Flow.{flow_at, IsScheduleOf}
 use Rattle.gd_network.proofs.Allowed.{schedule_allowed}
 use Rattle.gd_network.proofs.Balance.{loads_are}
-use Rattle.gd_network.proofs.Carried.{ok_then}
-use Rattle.gd_network.proofs.Wired.{wired}
+use Rattle.gd_network.proofs.LineFlows.{ok_then}
+use Rattle.gd_network.proofs.Wiring.{wired}
 use Rattle.gd_network.proofs.network.Network.schedule_of.Goals as goal
 
 pub returns-clause-schedule : goal.returns-clause-schedule

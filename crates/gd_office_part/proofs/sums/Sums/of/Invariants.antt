@@ -2,7 +2,7 @@ use Rattle.std.proofs.Common.{◌≡◌, ◌≤◌, ◌*◌, ◌^◌, take, sum_
 use Rattle.gd_office_part.proofs.sums.Sums.of.Given as goal
 
 abbrev pub invariant-loop-session : goal.invariant-loop-session
-invariant-loop-session l =
+invariant-loop-session g l =
     record {
       calls : l.calls ≡ sum_by (λ s. s.numbers.calls) (take l.session-index l.sessions);
       nominations : l.nominations ≡ sum_by (λ s. s.numbers.nominations) (take l.session-index l.sessions);

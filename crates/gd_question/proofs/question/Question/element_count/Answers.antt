@@ -1,6 +1,6 @@
 use Rattle.std.proofs.Common.{sym, ◌∙◌, ap, length}
 use Rattle.gd_system.specs.Pipeline.{elements_of}
-use Rattle.gd_question.specs.Posed.{Posed}
+use Rattle.gd_question.specs.Posing.{Posed}
 use Rattle.gd_question.proofs.InForceLemmas.{length-in_force}
 use Rattle.gd_question.proofs.question.Question.element_count.Goals as goal
 

@@ -1,5 +1,5 @@
 use Rattle.std.proofs.Common.{subst}
-use Rattle.gd_question.specs.Posed.{Posed}
+use Rattle.gd_question.specs.Posing.{Posed}
 use Rattle.gd_question.specs.Known.{IsKnown}
 use Rattle.gd_question.proofs.Sound.{is_known}
 use Rattle.gd_question.proofs.question.Question.known.Goals as goal

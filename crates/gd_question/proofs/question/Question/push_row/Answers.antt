@@ -1,7 +1,7 @@
 use Rattle.std.proofs.Common.{rules, ◌≡◌, ◌<◌, ◌++◌, ◌∷◌, [], length, arith, true, List, ap, subst, sym, ◌∙◌}
 use Rattle.std.specs.Result.{is_ok}
 use Rattle.std.proofs.lemmas.List.{length-append, length-map}
-use Rattle.gd_question.specs.Posed.{Posed}
+use Rattle.gd_question.specs.Posing.{Posed}
 use Rattle.gd_question.specs.Rows.{IsRow, line_of}
 use Rattle.gd_question.specs.declared.question.Row.{Row}
 use Rattle.gd_question.proofs.Asked.{rows_more}

@@ -1,6 +1,6 @@
 use Rattle.std.proofs.Common.{◌<◌, ◌≢◌, length, arith}
 use Rattle.gd_system.specs.BuilderInside.{pipeline_of}
-use Rattle.gd_system.proofs.Made.{system_of}
+use Rattle.gd_system.proofs.Making.{system_of}
 use Rattle.gd_system.proofs.builder.SystemBuilder.finish.Goals as goal
 
 pub invariant_of-result : goal.invariant_of-result

@@ -2,7 +2,7 @@ use Rattle.std.proofs.Common.{◌<◌, ◌++◌, ◌∷◌, [], sym, ap, subst, 
 use Rattle.gd_system.specs.BuilderInside.{pipeline_of}
 use Rattle.gd_system.specs.Pipeline.{same_name}
 use Rattle.gd_system.proofs.Names.{new_point}
-use Rattle.gd_system.proofs.Grows.{point_kept}
+use Rattle.gd_system.proofs.Growth.{point_kept}
 use Rattle.std.specs.Map.{lookup}
 use Rattle.gd_system.specs.declared.part.Point.{Point}
 use Rattle.gd_system.proofs.builder.SystemBuilder.point.Goals as goal

@@ -2,7 +2,7 @@ use Rattle.std.proofs.Common.{◌<◌, ◌++◌, ◌∷◌, [], sym, ap, subst, 
 use Rattle.gd_system.specs.BuilderInside.{pipeline_of}
 use Rattle.gd_system.specs.Pipeline.{same_name}
 use Rattle.gd_system.proofs.Names.{new_pool}
-use Rattle.gd_system.proofs.Grows.{pool_kept}
+use Rattle.gd_system.proofs.Growth.{pool_kept}
 use Rattle.std.specs.Map.{lookup}
 use Rattle.gd_system.specs.declared.part.Pool.{Pool}
 use Rattle.gd_system.proofs.builder.SystemBuilder.pool.Goals as goal

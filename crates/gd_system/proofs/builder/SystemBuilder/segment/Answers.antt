@@ -2,7 +2,7 @@ use Rattle.std.proofs.Common.{◌≡◌, ◌<◌, ◌++◌, ◌∷◌, [], ◌�
 use Rattle.std.proofs.lemmas.Grind.{common_steps}
 use Rattle.gd_system.specs.BuilderInside.{pipeline_of}
 use Rattle.gd_system.specs.Pipeline.{entered, checked_segment, known}
-use Rattle.gd_system.proofs.Grows.{segment_kept, pushed, entered_new, length_push, passes_new}
+use Rattle.gd_system.proofs.Growth.{segment_kept, pushed, entered_new, length_push, passes_new}
 use Rattle.gd_system.proofs.builder.SystemBuilder.segment.Goals as goal
 
 pub invariant_of-self-2 : goal.invariant_of-self-2

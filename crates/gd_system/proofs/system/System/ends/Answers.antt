@@ -1,7 +1,7 @@
 use Rattle.std.proofs.Common.{ap, ◌∙◌, Some}
 use Rattle.gd_system.specs.Pipeline.{element_number}
 use Rattle.gd_system.specs.Route.{ends_found}
-use Rattle.gd_system.proofs.Told.{ends_within}
+use Rattle.gd_system.proofs.NamedEnds.{ends_within}
 use Rattle.gd_system.proofs.system.System.ends.Goals as goal
 
 pub returns-in-Some-Some-clause-within : goal.returns-in-Some-Some-clause-within

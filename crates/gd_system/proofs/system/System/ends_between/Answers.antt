@@ -4,7 +4,7 @@ use Rattle.gd_rules.specs.Tree.{place_of}
 use Rattle.gd_system.specs.Route.{ends_at}
 use Rattle.gd_system.specs.SystemInside.{pipeline_of}
 use Rattle.gd_system.specs.declared.RouteFault.TheVariants.{NoRoute}
-use Rattle.gd_system.proofs.Told.{ends_tested, ends_are}
+use Rattle.gd_system.proofs.NamedEnds.{ends_tested, ends_are}
 use Rattle.gd_system.proofs.system.System.ends_between.Goals as goal
 
 pub returns-then-not-runs-clause-is : goal.returns-then-not-runs-clause-is

@@ -6,7 +6,7 @@ use Rattle.gd_system.specs.Route.{ends_of}
 use Rattle.gd_system.specs.Known.{IsSystem}
 use Rattle.gd_system.specs.SystemInside.{pipeline_of}
 use Rattle.gd_system.specs.declared.RouteFault.TheVariants.{NoRoute}
-use Rattle.gd_system.proofs.Told.{told_parted, told_are, found_route, some_route}
+use Rattle.gd_system.proofs.NamedEnds.{told_parted, told_are, found_route, some_route}
 use Rattle.gd_system.proofs.system.System.route.Goals as goal
 
 pub returns-in_err-ends-clause-none : goal.returns-in_err-ends-clause-none

@@ -1,8 +1,10 @@
 use Rattle.std.proofs.Common.{◌≡◌, IfSome, vec_len}
-use Rattle.std.specs.List.{All}
+use Rattle.gd_desk.specs.Desks.{EachFrom}
 use Rattle.gd_desk.proofs.round.fn.round_of.scope.Given as goal
 
 abbrev pub invariant-loop-slot : goal.invariant-loop-slot
 invariant-loop-slot g l =
-    (vec_len l.children ≡ l.slot-index)
-    × All (λ c. IfSome c (λ h. h.promise.moment ≡ l.moment.now)) l.children.items
+    record {
+      len : vec_len l.children ≡ l.slot-index;
+      started : EachFrom (λ slot c. IfSome c (λ h. (h.promise.slot ≡ slot) × (h.promise.moment ≡ l.moment.now))) 1 l.children.items;
+    }

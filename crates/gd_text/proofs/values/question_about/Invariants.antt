@@ -1,8 +1,0 @@
-use Rattle.std.proofs.Common.{◌≡◌, ◌+◌, drop}
-use Rattle.gd_text.specs.Building.{built_from}
-use Rattle.gd_text.specs.Values.{question_step}
-use Rattle.gd_text.proofs.values.question_about.Given as goal
-
--- What the rows that are left make of the builder is what all of them make of the one it was.
-abbrev pub invariant-rows : goal.invariant-rows
-invariant-rows l = built_from question_step (l.index + 1) l.builder (drop l.index l.rows) ≡ built_from question_step 1 l.initial.builder l.rows

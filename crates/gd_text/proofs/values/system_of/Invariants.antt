@@ -1,9 +1,0 @@
-use Rattle.std.proofs.Common.{◌≡◌, ◌+◌, drop}
-use Rattle.gd_text.specs.Building.{built_from}
-use Rattle.gd_text.specs.Values.{pipeline_step}
-use Rattle.gd_system.specs.Pipeline.{empty}
-use Rattle.gd_text.proofs.values.system_of.Given as goal
-
--- What the rows that are left make of the builder is what all of them make of an empty one.
-abbrev pub invariant-rows : goal.invariant-rows
-invariant-rows l = built_from pipeline_step (l.index + 1) l.builder (drop l.index l.rows) ≡ built_from pipeline_step 1 empty l.rows

@@ -1,6 +1,0 @@
-use Rattle.std.proofs.Common.{◌≡◌, take}
-use Rattle.gd_walks.specs.Steps.{least_room}
-use Rattle.gd_walks.proofs.rooms.least_room.Given as goal
-
-abbrev pub invariant-loop-step : goal.invariant-loop-step
-invariant-loop-step l = l.least ≡ least_room l.network.arcs l.flow (take l.step-index l.walk) l.most
