@@ -96,14 +96,10 @@ pub(crate) fn fetched<S: Alter>(
         return Ok(None);
     };
     match gd_archive::fetch(conn, alloc, book, cycle)? {
-        Some((rule, posting)) => {
-            let body = body_of(alloc, &posting);
-            drop(posting);
-            match body {
-                Ok(body) => Ok(Some((rule, body))),
-                Err(_) => Err(FetchFault::Damaged),
-            }
-        }
+        Some((rule, posting)) => match body_of(alloc, &posting) {
+            Ok(body) => Ok(Some((rule, body))),
+            Err(_) => Err(FetchFault::Damaged),
+        },
         None => Ok(None),
     }
 }

@@ -8,32 +8,20 @@ use std::test::Fail;
 /// A database on files in memory.
 pub(crate) type Archive = Connection<FileStore<Fuse<Memory>>>;
 
-/// Writes these bytes on a disk, and syncs it.
-fn fill(disk: &mut Memory, bytes: &[u8]) -> Result<(), Fail> {
+/// A disk that holds these bytes, and has been synced, and that stops behind so many calls more.
+fn disk_of(alloc: Global, bytes: &[u8], calls: u64) -> Result<Fuse<Memory>, Fail> {
+    let mut disk = Memory::new(alloc);
     if !bytes.is_empty() {
         disk.set_len(bytes.len())?;
         disk.write_at(0, bytes)?;
         disk.sync()?;
     }
-    Ok(())
-}
-
-/// A disk that holds these bytes, and has been synced, and that stops behind so many calls more.
-fn disk_of(alloc: Global, bytes: &[u8], calls: u64) -> Result<Fuse<Memory>, Fail> {
-    let mut disk = Memory::new(alloc);
-    match fill(&mut disk, bytes) {
-        Ok(()) => Ok(Fuse::new(disk, calls)),
-        Err(fault) => {
-            drop(disk);
-            Err(fault)
-        }
-    }
+    Ok(Fuse::new(disk, calls))
 }
 
 /// A database on these files; none where they can't be opened.
 fn opened(alloc: Global, files: Files<Fuse<Memory>>) -> Option<Archive> {
     if !files.may_be_used() {
-        drop(files);
         return None;
     }
     match Connection::open_files(alloc, files, Options::new(1)) {
@@ -45,29 +33,8 @@ fn opened(alloc: Global, files: Files<Fuse<Memory>>) -> Option<Archive> {
 /// A database on new files, which do not stop.
 pub(crate) fn new_archive(alloc: Global) -> Result<Archive, Fail> {
     let log = disk_of(alloc, &[], u64::MAX)?;
-    match disk_of(alloc, &[], u64::MAX) {
-        Ok(db) => Ok(opened(alloc, Files { log, db }).ok_or("new files are opened")?),
-        Err(fault) => {
-            drop(log);
-            Err(fault)
-        }
-    }
-}
-
-/// The database on what these files hold.
-fn reopened(
-    alloc: Global,
-    files: &Files<Fuse<Memory>>,
-    calls: u64,
-) -> Result<Option<Archive>, Fail> {
-    let log = disk_of(alloc, files.log.inner().bytes(), calls)?;
-    match disk_of(alloc, files.db.inner().bytes(), calls) {
-        Ok(db) => Ok(opened(alloc, Files { log, db })),
-        Err(fault) => {
-            drop(log);
-            Err(fault)
-        }
-    }
+    let db = disk_of(alloc, &[], u64::MAX)?;
+    Ok(opened(alloc, Files { log, db }).ok_or("new files are opened")?)
 }
 
 /// The database as a crash leaves it, opened again; none where its disks stop before. They stop behind so many calls of the
@@ -76,7 +43,7 @@ pub(crate) fn crashed(alloc: Global, conn: Archive, calls: u64) -> Result<Option
     let mut files = conn.into_store().close();
     files.log.crash();
     files.db.crash();
-    let again = reopened(alloc, &files, calls);
-    drop(files);
-    again
+    let log = disk_of(alloc, files.log.inner().bytes(), calls)?;
+    let db = disk_of(alloc, files.db.inner().bytes(), calls)?;
+    Ok(opened(alloc, Files { log, db }))
 }

@@ -52,22 +52,12 @@ fn left_of<S: Alter>(conn: &mut Connection<S>, alloc: Global, job: Job<'_>) -> L
     }
 }
 
-/// A new archive in which the job is to be done.
-fn prepared(alloc: Global, job: Job<'_>) -> Result<Archive, Fail> {
-    let mut made = new_archive(alloc)?;
-    match prepare(&mut made, job) {
-        Ok(()) => Ok(made),
-        Err(fault) => {
-            drop(made);
-            Err(fault)
-        }
-    }
-}
-
 /// Stops the disks of a job behind so many calls, those of the open before it among them. None where the stop comes before
 /// the archive is open; else whether the job was done, and what is found of it behind the crash.
 fn stopped(alloc: Global, job: Job<'_>, calls: u64) -> Result<Option<(bool, Left)>, Fail> {
-    match crashed(alloc, prepared(alloc, job)?, calls)? {
+    let mut made = new_archive(alloc)?;
+    prepare(&mut made, job)?;
+    match crashed(alloc, made, calls)? {
         Some(mut conn) => {
             let is_done = does(&mut conn, alloc, job);
             Ok(Some((is_done, left_behind(alloc, conn, job)?)))
@@ -79,11 +69,7 @@ fn stopped(alloc: Global, job: Job<'_>, calls: u64) -> Result<Option<(bool, Left
 /// What is found of a job behind a crash.
 fn left_behind(alloc: Global, conn: Archive, job: Job<'_>) -> Result<Left, Fail> {
     match crashed(alloc, conn, u64::MAX)? {
-        Some(mut again) => {
-            let left = left_of(&mut again, alloc, job);
-            drop(again);
-            Ok(left)
-        }
+        Some(mut again) => Ok(left_of(&mut again, alloc, job)),
         None => Err("an open behind the crash".into()),
     }
 }
@@ -109,9 +95,8 @@ fn stopped_at_each(rt: &impl Abort, alloc: Global, job: Job<'_>) -> Result<u64, 
 #[test]
 fn keep_at_each_call(rt: HostRuntime) -> Result<(), Fail> {
     let kept = posting(rt.alloc(), INTRADAY_2)?;
-    let stops = stopped_at_each(&rt, rt.alloc(), Job::Keep(&kept));
-    drop(kept);
-    assert!(rt; stops? > 0);
+    let stops = stopped_at_each(&rt, rt.alloc(), Job::Keep(&kept))?;
+    assert!(rt; stops > 0);
     Ok(())
 }
 
