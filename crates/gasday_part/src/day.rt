@@ -1,6 +1,7 @@
 //! The calendar of a gas day, and what is told of one.
 
-ghost use Rattle.std.specs.Prelude.{◌≡◌, ◌≢◌, IfOk, IfErr};
+ghost use Rattle.std.specs.Prelude.{◌≡◌, ◌≢◌, pos, IfOk, IfErr};
+ghost use Rattle.jiff.specs.Words.{IsYmd};
 ghost use Rattle.gd_text.specs.Days.{day_of as day_by};
 ghost use Rattle.gasday_part.specs.Answers as spec;
 ghost use Rattle.gasday_part.specs.AnswerSeen.{answer_seen};
@@ -10,6 +11,7 @@ use gd_calendar::{Calendar, CalendarFault, GasDay};
 use gd_replies::{Reply, calendar_replies};
 use gd_text::day_of;
 use gd_text_part::{CivilDate, Row, ZoneText};
+use jiff::civil::Date;
 use jiff::tz::TimeZone;
 use std::alloc::{AllocError, Global};
 
@@ -32,6 +34,17 @@ impl From<AllocError> for DayFault {
     }
 }
 
+/// The same day as `jiff`'s zones take it.
+fn day_in_zones(date: CivilDate) -> Date
+    ensures { IsYmd (pos date.year) (pos date.month) (pos date.day) result }
+{
+    let day = date.date();
+    match Date::new(day.year, day.month as i8, day.day as i8) {
+        Ok(date) => date,
+        Err(_) => unreachable!(),
+    }
+}
+
 /// The calendar of the gas day of a date, in the zone that a text gives.
 ///
 /// # Errors
@@ -42,7 +55,7 @@ pub fn calendar_of(alloc: Global, date: CivilDate, zone: &ZoneText) -> Result<Ca
     ensures ok { IfOk result (λ calendar. spec.IsCalendarIn date zone.now calendar) }
     ensures err { IfErr result (spec.ExplainsDay date zone.now) }
 {
-    let Ok(day) = GasDay::new(date.date()) else {
+    let Ok(day) = GasDay::new(day_in_zones(date)) else {
         return Err(DayFault::OutOfRange);
     };
     let Ok(zone) = TimeZone::posix(zone.as_str()) else {

@@ -56,7 +56,7 @@ fn a_read_of_any_number_fails(rt: HostRuntime) -> Result<(), Fail> {
         };
         let outcome = unless_no_memory(read_all(rt.alloc(), Form::CheckAllowed, &mut reader))?;
         if 0 < failing && failing <= reads {
-            assert_eq!(rt; outcome.err(), Some(TextFault::ReadFailed), "at {failing}");
+            assert_eq!(rt; outcome.err(), Some(TextFault::ReadFailed));
             assert_eq!(rt; reader.reads, failing);
         } else {
             assert_eq!(rt; outcome?.len(), 1);

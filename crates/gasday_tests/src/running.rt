@@ -168,7 +168,7 @@ fn a_read_of_any_number_fails(rt: HostRuntime) -> Result<(), Fail> {
     for failing in 1..reads + 2 {
         let (status, answer) = answer_of(&rt, rt.alloc(), reader_of(TEXT, 1, failing))?;
         if failing <= reads {
-            assert_eq!(rt; answer.as_slice(), NO_READ, "at {failing}");
+            assert_eq!(rt; answer.as_slice(), NO_READ);
             assert_eq!(rt; status, 2);
         } else {
             assert_eq!(rt; answer.as_slice(), ANSWER);
@@ -194,11 +194,11 @@ fn a_write_of_any_number_fails(rt: HostRuntime) -> Result<(), Fail> {
                 &mut writer,
             );
             if 0 < failing && failing <= writes {
-                assert_eq!(rt; status, 2, "at {failing}");
+                assert_eq!(rt; status, 2);
                 assert_eq!(rt; writer.got.as_slice(), &ANSWER[..failing - 1]);
                 assert_eq!(rt; writer.writes, failing);
             } else {
-                assert_eq!(rt; status, 0, "at {failing}");
+                assert_eq!(rt; status, 0);
                 assert_eq!(rt; writer.got.as_slice(), ANSWER);
             }
         }
@@ -220,12 +220,12 @@ fn the_write_of_any_row_fails(rt: HostRuntime) -> Result<(), Fail> {
                 &mut reader,
                 &mut writer,
             );
-            assert!(rt; ANSWER.starts_with(writer.got.as_slice()), "at {failing}");
+            assert!(rt; ANSWER.starts_with(writer.got.as_slice()));
             if failing <= 5 {
-                assert_eq!(rt; status, 2, "at {failing}");
+                assert_eq!(rt; status, 2);
                 assert_eq!(rt; rows_in(writer.got.as_slice()), failing - 1);
             } else {
-                assert_eq!(rt; status, 0, "at {failing}");
+                assert_eq!(rt; status, 0);
                 assert_eq!(rt; writer.got.len(), ANSWER.len());
             }
         }
@@ -260,9 +260,9 @@ fn a_text_cut_after_any_byte(rt: HostRuntime) -> Result<(), Fail> {
             Some(5..=7) => (1, NO_SHAPE),
             _ => (2, b"fault,".as_slice()),
         };
-        assert_eq!(rt; status, wanted, "at {cut}");
-        assert!(rt; answer.starts_with(text), "at {cut}");
-        assert!(rt; status == 2 || answer.len() == text.len(), "at {cut}");
+        assert_eq!(rt; status, wanted);
+        assert!(rt; answer.starts_with(text));
+        assert!(rt; status == 2 || answer.len() == text.len());
     }
     Ok(())
 }

@@ -156,11 +156,8 @@ fn reads_well(answer: &str, text: &str) -> bool {
 fn each_line_has_its_answer(rt: HostRuntime) -> Result<(), Fail> {
     for (words, wanted) in LINES {
         let (answer, text) = told(&rt, words).ok_or("out of memory")?;
-        assert!(rt;
-            is_wanted(wanted, answer.as_str()),
-            "at {words:?}: {answer}"
-        );
-        assert!(rt; reads_well(wanted, text.as_str()), "at {words:?}: {text}");
+        assert!(rt; is_wanted(wanted, answer.as_str()));
+        assert!(rt; reads_well(wanted, text.as_str()));
     }
     Ok(())
 }

@@ -286,10 +286,10 @@ pub(crate) fn makes(
     other: &Book,
     rows: &[Row],
 ) {
-    for (row, (seconds, call, wanted)) in rows.iter().enumerate() {
+    for (seconds, call, wanted) in rows {
         let former = state(book);
         let told = make(rt, alloc, book, board, other, at(rt, *seconds), *call);
-        assert!(rt; told == *wanted, "in row {row}");
+        assert!(rt; told == *wanted);
         keeps(rt, told, former, book);
     }
 }

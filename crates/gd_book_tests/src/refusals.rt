@@ -124,7 +124,7 @@ fn shows(rt: &impl Abort, book: &Book, event: &Event, wanted: &Refusals) {
     for (length, refusal) in wanted.iter().enumerate() {
         assert!(rt; length <= book.history().len());
         let told = book.refusal_at(length, event).expect(rt, "memory");
-        assert_eq!(rt; told, *refusal, "after {length} events");
+        assert_eq!(rt; told, *refusal);
     }
 }
 

@@ -25,7 +25,8 @@ struct Parts {
     prices: Prices<Tariff>,
 }
 
-/// A question with a schedule and prices that passed the check, by the tariff in force. [`check_par`] alone makes one.
+/// A question with a schedule and prices that passed the check, by the tariff in force. [`check_par`] alone makes one, and
+/// [`Checked::try_clone`] another of the same.
 ///
 /// A contract sees the three.
 #[derive(Drop)]

@@ -25,7 +25,7 @@ fn shows_cycles(rt: &impl Abort, calendar: &Calendar) {
     ] {
         let moment = Moment::new(seconds).expect(rt, "a moment");
         let cycle = calendar.cycle_of(moment);
-        assert_eq!(rt; cycle.map(|cycle| cycle.number()), number, "at {seconds}");
+        assert_eq!(rt; cycle.map(|cycle| cycle.number()), number);
     }
 }
 

@@ -35,7 +35,10 @@ fn add_points(rt: &impl Abort, builder: &mut SystemBuilder) -> Result<(), BuildF
 fn finished(builder: SystemBuilder) -> Result<System, BuildFault> {
     match builder.finish() {
         Ok(system) => Ok(system),
-        Err((fault, _)) => Err(fault),
+        Err((fault, builder)) => {
+            drop(builder);
+            Err(fault)
+        }
     }
 }
 
@@ -68,6 +71,12 @@ fn add_two(rt: &impl Abort, contracts: &mut Contracts) -> Result<(), ContractFau
     contracts.add(contract(rt, "I", interruptible))
 }
 
+fn shows_class(rt: &impl Abort, contracts: &Contracts, text: &str, dest: &str, wanted: u8) {
+    let told = contracts.class_of(name(rt, text), name(rt, "R1"), name(rt, dest));
+    let class = told.ok().expect(rt, "a class");
+    assert_eq!(rt; class.number(), wanted);
+}
+
 /// To the primary delivery, to one on the way, and to one off it; at band 3 each is of class 6.
 fn shows_classes(rt: &impl Abort, contracts: &Contracts) {
     for (text, dest, wanted) in [
@@ -77,9 +86,7 @@ fn shows_classes(rt: &impl Abort, contracts: &Contracts) {
         ("I", "D1", 6),
         ("I", "DE", 6),
     ] {
-        let told = contracts.class_of(name(rt, text), name(rt, "R1"), name(rt, dest));
-        let class = told.ok().expect(rt, "a class");
-        assert_eq!(rt; class.number(), wanted, "{text}: R1 to {dest}");
+        shows_class(rt, contracts, text, dest, wanted);
     }
 }
 

@@ -63,6 +63,10 @@ one-total = refl
 tenths : (tenth_of 50 20 ≡ 4) × (tenth_of 50 21 ≡ 5) × (tenth_of 50 1 ≡ 1) × (tenth_of 50 50 ≡ 10) × (line_weight (record { origin = 0; dest = 0; route = []; class = 4; floor = 0; ceiling = 50 }) 20 ≡ 50)
 tenths = (refl, refl, refl, refl, refl)
 
+-- tenths of 25 end at 2 1/2, 5, 7 1/2 ..: dekatherm 7 is the last of tenth 3, and 8 is in tenth 4
+parted-tenths : (tenth_end 25 3 ≡ 7) × (tenth_of 25 7 ≡ 3) × (tenth_of 25 8 ≡ 4)
+parted-tenths = (refl, refl, refl)
+
 p4 : ℕ → ℤ
 p4 k = at_class 4 (pos 1) k
 

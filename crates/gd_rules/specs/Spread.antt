@@ -1,5 +1,5 @@
 -- The spread (own): within a class the dekatherms of a line are worth the less, the later the tenth of its ceiling in which they lie.
--- So scarce capacity goes to a class's lines in equal shares of their ceilings, to the tenth.
+-- So lines of a class that compete at one bottleneck are served tenth by tenth, which gives them about equal shares of their ceilings, floors aside.
 use Rattle.std.specs.Prelude.{◌≡◌, ℕ, ◌+◌, ◌*◌, ◌/◌, ◌<◌, ◌≤◌, List, length, nat_lt, ◌==◌, if◌then◌else◌, ◌⊎◌}
 use Rattle.gd_scale.specs.Sum.{sum_nat}
 use Rattle.gd_rules.specs.Question.{Line, Question, line}

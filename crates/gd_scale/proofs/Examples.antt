@@ -31,6 +31,15 @@ second-word : words_order 2 low high ≡ Less
 unfolding words_order low high
 second-word = refl
 
+-- (2, -5) is above (1, 0), whatever the second word says
+ahead : ℕ → ℤ
+ahead zero = pos 2
+ahead (suc k) = negsuc 4
+
+first-decides : words_order 2 ahead high ≡ Greater
+unfolding words_order ahead high
+first-decides = refl
+
 -- of two groups the first decides, here against the second
 groups : (both (words 2) (words 1)).order (high, low) (low, high) ≡ Greater
 unfolding words_order low high

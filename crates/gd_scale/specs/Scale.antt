@@ -12,7 +12,7 @@ pub record Scale (V : Type 0) : Type 0 where
   pub minus : V → V
   pub order : V → V → Ordering
 
--- A commutative group with a total order that adding keeps.
+-- A commutative group with an order that adding keeps, total up to values that it finds equal.
 pub record IsLawful {V : Type 0} (s : Scale V) : Type 0 where
   pub commutes : (x y : V) → s.plus x y ≡ s.plus y x
   pub associates : (x y z : V) → s.plus (s.plus x y) z ≡ s.plus x (s.plus y z)

@@ -18,7 +18,7 @@ use std::marker::Model;
 /// A pipeline by name: the tree of its segments, and the points and pools at its places.
 ///
 /// Elements are numbered from 0: segments, then points, then pools, each in order of entry. Places are numbered from
-/// 0 in order of first mention. No call takes memory but `route`.
+/// 0 in order of first mention. Only `route` and `try_clone` take memory.
 #[derive(Drop)]
 pub struct System {
     pub(crate) places: IndexSet<Name>,

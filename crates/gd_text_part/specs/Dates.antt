@@ -1,6 +1,6 @@
 -- Dates in the form YYYY-MM-DD.
 use Rattle.std.specs.Prelude.{ℕ, ◌==◌, ◌&&◌, nat_le, Bool, List, length, take, drop, Option, Some, None, pos, get_or, if◌then◌else◌}
-use Rattle.jiff.specs.Words.{days_in_month}
+use Rattle.jiff_core.specs.Calendar.{days_in_month}
 use Rattle.gd_text_part.specs.Numbers.{number_of}
 
 pub record YearMonthDay : Type 0 where

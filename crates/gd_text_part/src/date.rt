@@ -1,10 +1,10 @@
 //! Civil dates as texts spell them.
 
 ghost use Rattle.std.specs.Prelude.{◌≡◌, pos};
-ghost use Rattle.jiff.specs.Words.{IsYmd};
+ghost use Rattle.jiff_core.specs.Date.{IsYmd};
 ghost use Rattle.gd_text_part.specs.Dates as spec;
 
-use jiff::civil::Date;
+use jiff_core::civil::Date;
 use std::marker::Model;
 
 /// A day of the civil calendar, from 0000-01-01 to 9999-12-31.
@@ -19,7 +19,7 @@ pub struct CivilDate {
 
 impl Model for CivilDate {
     ghost use Rattle.std.specs.Prelude.{pos};
-    ghost use Rattle.jiff.specs.Words.{IsDate};
+    ghost use Rattle.jiff_core.specs.Calendar.{IsDate};
     ghost use Rattle.gd_text_part.specs.Dates.{YearMonthDay};
 
     ghost Value = { YearMonthDay };
@@ -49,7 +49,7 @@ impl CivilDate {
         }
     }
 
-    /// The same day as the calendar of `jiff` has it.
+    /// The same day as the calendar of `jiff_core` has it.
     pub fn date(self) -> Date
         ensures { IsYmd (pos self.year) (pos self.month) (pos self.day) result }
     {

@@ -7,16 +7,16 @@ pub returns-in_default-posix-clause-err : goal.returns-in_default-posix-clause-e
 returns-in_default-posix-clause-err c =
     let none = rw c.as_str.ensures at c.in_default-posix.ensures.succeeds in
     let is = c.in_default-posix.is in
-    (c.date.result, c.date.ensures, c.in-Ok.ensures.1, inl (λ s. let bad = none.1 s in cc))
+    (c.day_in_zones.result, c.day_in_zones.ensures, c.in-Ok.ensures.1, inl (λ s. let bad = none.1 s in cc))
 
 pub returns-in-Ok-new-clause-ok : goal.returns-in-Ok-new-clause-ok
 returns-in-Ok-new-clause-ok c =
     let rule = rw c.as_str.ensures at c.in-Ok-posix.ensures.value in
     let calendar = rw c.in-Ok.ensures.0 at c.in-Ok-new.ensures.ok in
-    (c.date.result, c.date.ensures, c.in-Ok.ensures.1, (plain_zone c.in-Ok-posix.zone, rule, calendar))
+    (c.day_in_zones.result, c.day_in_zones.ensures, c.in-Ok.ensures.1, (plain_zone c.in-Ok-posix.zone, rule, calendar))
 
 pub returns-in-Err-BadZone-clause-err : goal.returns-in-Err-BadZone-clause-err
 returns-in-Err-BadZone-clause-err c =
     let rule = rw c.as_str.ensures at c.in-Ok-posix.ensures.value in
     let bad = rw c.in-Ok.ensures.0 at c.in-Err-BadZone.ensures.bad_zone in
-    (c.date.result, c.date.ensures, c.in-Ok.ensures.1, inr (plain_zone c.in-Ok-posix.zone, rule, bad.0 (ap (λ (f : CalendarFault). Err f) c.in-Err-BadZone.field-0-is)))
+    (c.day_in_zones.result, c.day_in_zones.ensures, c.in-Ok.ensures.1, inr (plain_zone c.in-Ok-posix.zone, rule, bad.0 (ap (λ (f : CalendarFault). Err f) c.in-Err-BadZone.field-0-is)))
