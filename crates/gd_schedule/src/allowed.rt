@@ -117,6 +117,8 @@ impl Schedule {
     pub fn allowed(&self, alloc: Global, question: &Question) -> Result<(), Broken>
         ensures passes { OnOk result (IsAllowed question.now.asked self.now) }
         ensures fault { IfErr result (Explains question.now.asked self.now) }
+        // Where the schedule is allowed nothing but want of memory is told.
+        ensures exact { IsAllowed question.now.asked self.now → IfErr result (λ told. told ≡ Broken.OutOfMemory) }
     {
         self.bounded(question)?;
         let loads = load_table(alloc, question, self)?;
