@@ -1,9 +1,13 @@
--- What holds of two lists place by place.
-use Rattle.std.proofs.Common.{◌≡◌, ◌∙◌, ℕ, ◌+◌, ◌<◌, List, [], ◌∷◌, ◌++◌, length, take, get_or, slice_get, Some, sym, ap}
+-- What holds of two lists place by place, and places that are within a list.
+use Rattle.std.proofs.Common.{zero, suc, All, IsSomeAnd, arith, ◌≡◌, ◌∙◌, ℕ, ◌+◌, ◌<◌, List, [], ◌∷◌, ◌++◌, length, take, get_or, slice_get, Some, sym, ap}
 use Rattle.std.specs.List.{AllZip}
 use Rattle.std.proofs.lemmas.List.{take_more}
+use Rattle.std.proofs.lemmas.List.Elements.{All-nil, All-cons}
 use Rattle.std.proofs.lemmas.Option.{slice_get-get_or}
 use Rattle.std.proofs.lemmas.Slice.Zip.{AllZip-right}
+use Rattle.gd_office_part.specs.declared.threads.SessionRows.{SessionRows}
+use Rattle.gd_office_part.specs.Seen.{Session, Slot}
+use Rattle.gd_office_part.specs.Sending.{IsOfSlot}
 
 push : {A B : Type 0} (R : A → B → Type 0) (xs : List A) (ys : List B) (x : A) (y : B) → AllZip R xs ys → R x y → AllZip R (xs ++ x ∷ []) (ys ++ y ∷ [])
 push R [] [] x y all here = (here, tt)
@@ -28,3 +32,22 @@ all_at {A = A} {B = B} R xs ys at x y within inside is_x is_y all =
     let left : slice_get xs at ≡ Some x = slice_get-get_or xs at x within ∙ ap (λ (z : A). Some z) (sym is_x) in
     let right : slice_get ys at ≡ Some y = slice_get-get_or ys at y inside ∙ ap (λ (z : B). Some z) (sym is_y) in
     rw left at (rw right at (AllZip-right R xs ys all at))
+
+-- what stands at a place is within the list
+within : {A : Type 0} (P : A → Type 0) (xs : List A) (at : ℕ) → IsSomeAnd (slice_get xs at) P → at < length xs
+within P [] at here = absurd here
+within P (x ∷ xs) zero here = omega arith
+within P (x ∷ xs) (suc at) here =
+    let rest = within P xs at here in
+    omega (arith, rest)
+
+-- where each session is of the slot at its place, there is one
+pub slots_there : (slots : List Slot) (sessions : List Session) (rows : List SessionRows) → length sessions ≡ length rows
+    → AllZip (IsOfSlot slots) sessions rows → All (λ (row : SessionRows). row.slot < length slots) rows
+slots_there slots sessions [] long all = All-nil (λ (row : SessionRows). row.slot < length slots)
+slots_there slots [] (row ∷ rows) long all = absurd all
+slots_there slots (session ∷ sessions) (row ∷ rows) long all =
+    let more : length sessions ≡ length rows = omega arith in
+    All-cons (λ (it : SessionRows). it.slot < length slots) row rows
+    (within (λ (slot : Slot). slot.number ≡ session.number) slots row.slot all.0)
+    (slots_there slots sessions rows more all.1)

@@ -1,8 +1,9 @@
 //! The calls of sessions, each session in a thread of its own.
 
-ghost use Rattle.std.specs.Prelude.{◌≡◌, ◌↔◌, [], ◌∷◌, ◌++◌, length as len_of, map, IsTrue, IfOk, OnOk, OnErr};
+ghost use Rattle.std.specs.Prelude.{◌≡◌, ◌≢◌, ◌<◌, ◌↔◌, [], ◌∷◌, ◌++◌, length as len_of, map, All, IsTrue, IfOk, IfErr, OnOk, OnErr};
 ghost use Rattle.std.specs.List.{AllZip};
 ghost use Rattle.gd_office_part.specs.Sending as spec;
+ghost use Rattle.gd_office_part.specs.declared.threads.SendFault.TheVariants as fault;
 
 use crate::call::Call;
 use crate::days::Days;
@@ -44,6 +45,8 @@ pub enum SendFault {
 }
 
 impl From<AllocError> for SendFault {
+    ghost from_gives = { λ _ f. f ≡ fault.OutOfMemory };
+
     fn from(_e: AllocError) -> SendFault {
         SendFault::OutOfMemory
     }
@@ -106,7 +109,8 @@ fn join_all<R: Threads>(
 ) -> Result<Vec<Sent>, SendFault>
     requires { map (λ h. spec.asked h.promise.party h.promise.start h.promise.calls.value.items) children.items
         ≡ spec.asked_all starts.now rows.now }
-    ensures { IfOk result (λ all. map spec.sent_as all.items ≡ spec.asked_all starts.now rows.now) }
+    ensures sent { IfOk result (λ all. map spec.sent_as all.items ≡ spec.asked_all starts.now rows.now) }
+    ensures memory { IfErr result (λ why. why ≡ fault.OutOfMemory) }
 {
     let _ = starts;
     let _ = rows;
@@ -118,7 +122,7 @@ fn join_all<R: Threads>(
     Ok(all)
 }
 
-/// Makes the calls of all sessions, each session in its own thread, and waits for all.
+/// Makes the calls of all sessions, each session in its own thread, and waits for all. The slots are there.
 fn send_all<R: Threads + Wait + Sync, J: Days + Send + Sync>(
     rt: &R,
     alloc: Global,
@@ -126,23 +130,25 @@ fn send_all<R: Threads + Wait + Sync, J: Days + Send + Sync>(
     starts: &[Start],
     rows: &[SessionRows],
 ) -> Result<Vec<Sent>, SendFault>
-    requires { len_of starts.now ≡ len_of rows.now }
-    ensures { IfOk result (λ all. map spec.sent_as all.items ≡ spec.asked_all starts.now rows.now) }
+    requires starts { len_of starts.now ≡ len_of rows.now }
+    requires slots { All (λ row. row.slot < len_of slots.now) rows.now }
+    ensures sent { IfOk result (λ all. map spec.sent_as all.items ≡ spec.asked_all starts.now rows.now) }
+    ensures other { IfErr result (λ why. why ≢ fault.OtherSlot) }
 {
     thread::scope(
         thread::scope_env(),
         rt,
         |scope| -> Result<Vec<Sent>, SendFault>
-            requires { len_of starts.now ≡ len_of rows.now }
-            ensures { IfOk result (λ all. map spec.sent_as all.items ≡ spec.asked_all starts.entry.now rows.entry.now) }
+            requires starts { len_of starts.now ≡ len_of rows.now }
+            requires slots { All (λ row. row.slot < len_of slots.now) rows.now }
+            ensures sent { IfOk result (λ all. map spec.sent_as all.items ≡ spec.asked_all starts.entry.now rows.entry.now) }
+            ensures other { IfErr result (λ why. why ≢ fault.OtherSlot) }
         {
             let mut children = Vec::with_capacity(alloc, rows.len())?;
             for at in 0..rows.len() {
                 let row = &rows[at];
                 let start = &starts[at];
-                let Some(slot) = slots.get(row.slot) else {
-                    return Err(SendFault::OtherSlot);
-                };
+                let slot = &slots[row.slot];
                 let promise = SentOf {
                     party: start.party,
                     start: start.numbers,
@@ -237,7 +243,7 @@ fn are_of_slots<J: Days>(
 ///
 /// # Errors
 ///
-/// `OtherSlot`, before any call is made; `NoThread` and `OutOfMemory`, after which calls may have been made whose receipts
+/// `OtherSlot` exactly where a session isn't of the slot at its place, before any call is made; `NoThread` and `OutOfMemory`, after which calls may have been made whose receipts
 /// are lost. No session counts anything then, and its slot can't be closed any more.
 pub fn send<R: Threads + Wait + Sync, J: Days + Send + Sync>(
     rt: &R,
@@ -248,6 +254,7 @@ pub fn send<R: Threads + Wait + Sync, J: Days + Send + Sync>(
 ) -> Result<Vec<Vec<Receipt>>, SendFault>
     requires { len_of sessions.old ≡ len_of rows.now }
     ensures slots { OnOk result (AllZip (spec.IsOfSlot slots.now) sessions.old rows.now) }
+    ensures exact { AllZip (spec.IsOfSlot slots.now) sessions.old rows.now → IfErr result (λ why. why ≢ fault.OtherSlot) }
     ensures sent { IfOk result (λ lists. spec.AreSent sessions.old rows.now (spec.lists_of lists.items)) }
     ensures counted { IfOk result (λ lists. spec.AreCounted sessions.old (spec.lists_of lists.items) sessions.new) }
     ensures kept { map spec.kept_of sessions.new ≡ map spec.kept_of sessions.old }

@@ -11,7 +11,7 @@ loop-at-preserved g c =
     let start = c.index-starts-at.result in
     let row = c.index-rows-at.result in
     let more = asked_more c.captures.starts.now c.captures.rows.now c.loop-at.at start row
-    c.requires c.loop-at-test.true c.index-starts-at.is c.index-rows-at.is in
+    c.requires.starts c.loop-at-test.true c.index-starts-at.is c.index-rows-at.is in
     let same =
     ap (λ (p : SentOf). asked p.party p.start p.calls.value.items) c.in-Ok.ensures.ok
     ∙ ap (λ (v : Vec Call). asked start.party start.numbers v.items) c.of.ensures in
@@ -19,4 +19,4 @@ loop-at-preserved g c =
 
 pub join_all-requires : goal.join_all-requires
 join_all-requires g c =
-    c.loop-at.invariant ∙ asked_whole c.captures.starts.now c.captures.rows.now c.loop-at.at c.requires c.loop-at-test.false
+    c.loop-at.invariant ∙ asked_whole c.captures.starts.now c.captures.rows.now c.loop-at.at c.requires.starts c.loop-at-test.false
