@@ -36,6 +36,6 @@ migrated (Ok n) = one (reply.Migrated n) 0
 migrated (Err migrate.OtherVersion) = refused reply.OtherVersion
 migrated (Err (migrate.Store e)) = no_store
 
-abbrev pub made_fault : StoreFault → Told
-made_fault store.OldVersion = old_version
-made_fault (store.Store e) = no_store
+abbrev pub make_fault : StoreFault → Told
+make_fault store.OldVersion = old_version
+make_fault (store.Store e) = no_store

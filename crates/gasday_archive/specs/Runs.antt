@@ -21,14 +21,14 @@ use Rattle.gd_text_part.specs.declared.fault.TextFault.{TextFault}
 use Rattle.gd_text_part.specs.declared.fault.TextFault.TheVariants as fault
 use Rattle.gd_text_part.specs.declared.kind.Form.TheVariants as form
 use Rattle.gd_text_part.specs.declared.row.Row.{Row}
-use Rattle.gd_text.specs.Building.{told_at}
+use Rattle.gd_text.specs.Building.{row_fault}
 use Rattle.gasday_part.specs.AnswerSeen.{answer_seen}
 use Rattle.gasday_part.specs.Answers.{Told, one, refused, fault_answer, no_memory, no_calendar, day_in, IsCalendarIn, ExplainsDay}
 use Rattle.gasday_part.specs.Output.{Written}
 use Rattle.gasday_part.specs.declared.answer.Answer.{Answer}
 use Rattle.gasday_part.specs.declared.day.DayFault.{DayFault}
 use Rattle.gasday_part.specs.declared.day.DayFault.TheVariants as no
-use Rattle.gasday_archive.specs.Archives.{no_store, audited, migrated, made_fault}
+use Rattle.gasday_archive.specs.Archives.{no_store, audited, migrated, make_fault}
 use Rattle.gasday_archive.specs.Keeping.{KeepAnswer, KeepsPublished, all_keep_rows, keep_status}
 
 -- ---- an archive that is open
@@ -66,7 +66,7 @@ module _ {S : Type 0} (g : Ghosts S) where
   abbrev pub TellsMade : Day → List Call → Held S → Held S → Told → Type 0
   TellsMade day calls old new a =
       ((made : Held S) × Makes (state g old) (state g made) (Ok tt) × TellsKept day calls made new a)
-      ⊎ ((f : StoreFault) × Makes (state g old) (state g new) (Err f) × (a ≡ made_fault f))
+      ⊎ ((f : StoreFault) × Makes (state g old) (state g new) (Err f) × (a ≡ make_fault f))
 
   -- ---- an archive that the opener gives
 
@@ -97,7 +97,7 @@ module _ {S : Type 0} (g : Ghosts S) where
     -- the day of the rows, or their first fault
     abbrev pub TellsRows : Result (List Row) RowFault → Option (Held S) → Told → Type 0
     TellsRows (Ok rows) left a = TellsDay rows (opened_of rows) left a
-    TellsRows (Err f) left a = (left ≡ None) × (a ≡ fault_answer (told_at f))
+    TellsRows (Err f) left a = (left ≡ None) × (a ≡ fault_answer (row_fault f))
 
     -- The day of a text in memory, where it is within its limits. Or that it is too long, and then no archive comes back.
     abbrev pub TellsBytes : List ℕ → Option (Held S) → Told → Type 0

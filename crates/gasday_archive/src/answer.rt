@@ -26,7 +26,7 @@ fn of_old_version(alloc: Global) -> Result<Answer, AllocError>
 
 /// An archive can't be made.
 pub(crate) fn of_unmade(alloc: Global, fault: StoreFault) -> Result<Answer, AllocError>
-    ensures { IfOk result (λ a. answer_seen a ≡ spec.made_fault fault) }
+    ensures { IfOk result (λ a. answer_seen a ≡ spec.make_fault fault) }
 {
     match fault {
         StoreFault::OldVersion => of_old_version(alloc),

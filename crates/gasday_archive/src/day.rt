@@ -34,7 +34,7 @@ fn run_and_keep<S: Alter>(
     told: &mut Vec<Reply>,
 ) -> Result<u8, AllocError>
     requires new { book.old.history ≡ [] }
-    requires pass { AllPass book.old.day.held.pipeline (calls_of rows.now) }
+    requires pass { AllPass book.old.day.holdings.pipeline (calls_of rows.now) }
     requires empty { told.old.items ≡ [] }
     ensures kept { HasCleanDisk (state S.Store conn.new) → IfOk result (spec.KeepsRun
         S.Store book.old.day (calls_of rows.now) conn.old conn.new told.new.items) }
@@ -57,7 +57,7 @@ fn tell_calls<S: Alter>(
     rows: &[Row],
 ) -> Answer
     requires new { book.old.history ≡ [] }
-    requires pass { AllPass book.old.day.held.pipeline (calls_of rows.now) }
+    requires pass { AllPass book.old.day.holdings.pipeline (calls_of rows.now) }
     ensures kept { HasCleanDisk (state S.Store conn.new) → spec.TellsKept S.Store
         book.old.day (calls_of rows.now) conn.old conn.new (answer_seen result) }
     ensures clean { HasCleanDisk (state S.Store conn.new) → HasCleanDisk (state S.Store conn.old) }
@@ -82,7 +82,7 @@ pub(crate) fn tell_in_archive<S: Alter>(
     rows: &[Row],
 ) -> Result<Answer, AllocError>
     requires new { book.old.history ≡ [] }
-    requires pass { AllPass book.old.day.held.pipeline (calls_of rows.now) }
+    requires pass { AllPass book.old.day.holdings.pipeline (calls_of rows.now) }
     ensures made { spec.Tells (λ a. HasCleanDisk (state S.Store conn.new) → spec.TellsMade S.Store
         book.old.day (calls_of rows.now) conn.old conn.new a) result }
 {

@@ -97,7 +97,7 @@ fn tell_book<S: Alter + Drop>(
     rows: &[Row],
 ) -> Outcome<S>
     requires new { book.old.history ≡ [] }
-    requires pass { AllPass book.old.day.held.pipeline (calls_of rows.now) }
+    requires pass { AllPass book.old.day.holdings.pipeline (calls_of rows.now) }
     ensures { spec.Tells (spec.TellsOf S.Store (spec.TellsMade S.Store book.old.day (calls_of rows.now))
         opened result.archive) result.answer }
 {
@@ -124,7 +124,7 @@ fn tell_text<S: Alter + Drop, O: Opener<S>>(
       date = text.date;
       zone = text.zone;
       book = text.book;
-      held = text.contracts;
+      holdings = text.contracts;
       carry = text.carry.items;
     })) result.archive) result.answer }
 {

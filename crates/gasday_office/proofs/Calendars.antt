@@ -59,7 +59,7 @@ have_calendars (x ∷ days) (m ∷ calendars) all zero d below = (m, all.0)
 have_calendars (x ∷ days) (m ∷ calendars) all (suc k) d below = let rest : k < length days = omega (arith, below) in have_calendars days calendars all.1 k d rest
 
 -- the pipelines of days, which are those of what they are opened with
-pub pipelines_are : (days : List DayText) → map (λ d. d.contracts.pipeline) days ≡ map (λ o. o.held.pipeline) (map opened days)
+pub pipelines_are : (days : List DayText) → map (λ d. d.contracts.pipeline) days ≡ map (λ o. o.holdings.pipeline) (map opened days)
 pipelines_are [] = refl
 pipelines_are (d ∷ days) = ap (λ (ps : List Pipeline). d.contracts.pipeline ∷ ps) (pipelines_are days)
 
@@ -70,7 +70,7 @@ pub tells_days : {E : Type 0} (r : Result Answer E) (days : List DayText) (books
     → IfOk r (λ a. TellsPhases books slots phases (answer_seen a)) → IfOk r (λ a. TellsDays rows (map opened days) (answer_seen a))
 tells_days (Err e) days books slots texts phases rows own read asked many tells = tt
 tells_days (Ok a) days books slots texts phases rows own read asked many tells =
-    let same : map seen_phase phases ≡ map (asked_phase (map (λ o. o.held.pipeline) (map opened days))) (phases_of rows) =
+    let same : map seen_phase phases ≡ map (asked_phase (map (λ o. o.holdings.pipeline) (map opened days))) (phases_of rows) =
     asked ∙ ap (map (asked_phase (pipelines days))) read ∙ ap (λ (ps : List Pipeline). map (asked_phase ps) (phases_of rows)) (pipelines_are days) in
     let long : slots ≡ length (map opened days) = many ∙ sym (length-map days opened) in
     inl (books, own, (phases, same, subst (λ (n : ℕ). TellsPhases books n phases (answer_seen a)) long tells))

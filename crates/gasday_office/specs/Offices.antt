@@ -55,7 +55,7 @@ TellsPhases books slots phases a =
 abbrev pub TellsDays : List Row → List Opened → Told → Type 0
 TellsDays rows days a =
     ((books : List Day) × AllZip IsOpenedWith days books
-    × ((phases : List Phase) × (map seen_phase phases ≡ map (asked_phase (map (λ d. d.held.pipeline) days)) (phases_of rows))
+    × ((phases : List Phase) × (map seen_phase phases ≡ map (asked_phase (map (λ d. d.holdings.pipeline) days)) (phases_of rows))
     × TellsPhases books (length days) phases a))
     ⊎ ((f : DayFault) × (f ≢ no.OutOfMemory) × LacksCalendar days f × (a ≡ refused (no_calendar f)))
 

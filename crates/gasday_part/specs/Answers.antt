@@ -35,7 +35,7 @@ use Rattle.gd_machine.specs.History.{History}
 use Rattle.gd_day.specs.Calls.{Call, calls_of}
 use Rattle.gd_day.specs.Opening.{Opened, opened_of}
 use Rattle.gd_course.specs.Course.{Runs, RunsInPart}
-use Rattle.gd_text.specs.Building.{told_at}
+use Rattle.gd_text.specs.Building.{row_fault}
 use Rattle.gd_text.specs.Days.{day_of}
 use Rattle.gd_text.specs.Values.{asked_of, question_of}
 use Rattle.gd_text.specs.Prices.{Table, ArePrices, prices_of}
@@ -194,7 +194,7 @@ TellsCourse day calls a =
 
 -- What a book is opened with, in a calendar of these moments.
 abbrev pub day_in : Opened → List ℕ → Day
-day_in o moments = record { name = o.book; held = o.held; moments = moments; carry = o.carry }
+day_in o moments = record { name = o.book; holdings = o.holdings; moments = moments; carry = o.carry }
 
 -- the course of a text's gas day, or the first refusal
 abbrev pub TellsDay : List Row → Result Opened TextFault → Told → Type 0
@@ -224,7 +224,7 @@ AnswersRows command.Office rows a = ⊥
 -- the rows are answered, or the first fault is told
 abbrev pub AnswersText : (List Row → Told → Type 0) → Result (List Row) RowFault → Told → Type 0
 AnswersText answers (Ok rows) a = answers rows a
-AnswersText answers (Err f) a = a ≡ fault_answer (told_at f)
+AnswersText answers (Err f) a = a ≡ fault_answer (row_fault f)
 
 -- What is answered to a text of this form in memory, where rows are answered so: what its rows say, where it is within its
 -- limits, or that it is too long.

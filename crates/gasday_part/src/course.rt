@@ -20,7 +20,7 @@ use std::thread::Threads;
 /// What the calls of the rows give on a new book.
 fn tell_calls(rt: &(impl Threads + Sync), alloc: Global, book: &mut Book, rows: &[Row]) -> Answer
     requires new { book.old.history ≡ [] }
-    requires pass { AllPass book.old.day.held.pipeline (calls_of rows.now) }
+    requires pass { AllPass book.old.day.holdings.pipeline (calls_of rows.now) }
     ensures { spec.TellsCourse book.old.day (calls_of rows.now) (answer_seen result) }
 {
     let board = Board::new(alloc);
@@ -48,7 +48,7 @@ fn tell_text(
       date = text.date;
       zone = text.zone;
       book = text.book;
-      held = text.contracts;
+      holdings = text.contracts;
       carry = text.carry.items;
     })) (answer_seen a)) }
 {

@@ -61,7 +61,7 @@ impl Book {
         carry: Vec<(LineKey, Dth)>,
     ) -> Result<Book, OpenFault>
         ensures ok { IfOk result (λ book. book ≡ record {
-          day = record { name = name; held = contracts; moments = calendar; carry = carry.items };
+          day = record { name = name; holdings = contracts; moments = calendar; carry = carry.items };
           history = [];
         }) }
         ensures err { IfErr result (ExplainsOpen carry.items) }
@@ -249,7 +249,7 @@ impl Book {
 
     /// The pipeline of the book.
     pub fn system(&self) -> &System
-        ensures { result.now ≡ self.now.day.held.pipeline }
+        ensures { result.now ≡ self.now.day.holdings.pipeline }
     {
         self.ledger.opening.contracts().system()
     }

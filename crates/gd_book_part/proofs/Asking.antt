@@ -85,9 +85,9 @@ no_capacity b own = ap (λ (es : List Element). record b { asked = record b.aske
 
 -- one line more
 pub asked_more : (day : Day) (h : History) (round n : ℕ) (key : Key) (class floor ceiling : ℕ) → key ≡ key_of day h n → class ≡ class_of day h n → floor ≡ floor_of day h n → ceiling ≡ confirmed_of day h n
-    → with_line (asked_until day h round n) (line_over day.held.pipeline (ends_of day.held.pipeline key.origin key.dest) class floor ceiling) ≡ asked_until day h round (n + 1)
+    → with_line (asked_until day h round n) (line_over day.holdings.pipeline (ends_of day.holdings.pipeline key.origin key.dest) class floor ceiling) ≡ asked_until day h round (n + 1)
 asked_more day h round n key class floor ceiling is_key is_class is_floor is_ceiling =
-    let p : Pipeline = day.held.pipeline in
+    let p : Pipeline = day.holdings.pipeline in
     let line : line_over p (ends_of p key.origin key.dest) class floor ceiling ≡ line_of day h n = λ i. line_over p (ends_of p (is_key i).origin (is_key i).dest) (is_class i) (is_floor i) (is_ceiling i) in
     let lines = ap (λ (l : Line). map (line_of day h) (range_with_len 0 n) ++ l ∷ []) line ∙ sym (map-range_with_len_more (line_of day h) 0 n n (zero-add n)) in
     ap (λ (ls : List Line). record (asked.question day h) { round = round; asked = record (asked.question day h).asked { lines = ls } }) lines

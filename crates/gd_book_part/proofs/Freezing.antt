@@ -16,13 +16,13 @@ use Rattle.gd_machine.specs.Asking.{nominations, counted, question}
 use Rattle.gd_machine.specs.Machine.{tests_of, refusal_of}
 use Rattle.gd_machine.proofs.Legal.{all_false}
 use Rattle.gd_machine.proofs.Steps.{stamp_more, frozen_more, cut_more, waived_more, response_more, elements_more, schedules_more}
-use Rattle.gd_machine.proofs.Nominated.{nominations_more}
+use Rattle.gd_machine.proofs.Nominations.{nominations_more}
 use Rattle.gd_machine.proofs.Counting.{cycle_more, round_more}
 use Rattle.gd_machine.proofs.Staying.{question_from}
-use Rattle.gd_book_part.specs.Confirmed.{nothing}
+use Rattle.gd_book_part.specs.LineConfirmations.{nothing}
 use Rattle.gd_book_part.specs.Kept.{AreTablesOf}
 use Rattle.gd_book_part.specs.declared.tables.Tables.{Tables}
-use Rattle.gd_book_part.proofs.More.{level, not_full, longer, few_on, cycle_on, settled_on, few_calls_on, effect_on, lines_on, sized_on, accepted_on, nominated_on, tells_on}
+use Rattle.gd_book_part.proofs.NextEvent.{level, not_full, longer, few_on, cycle_on, settled_on, few_calls_on, effect_on, lines_on, sized_on, accepted_on, nominated_on, tells_on}
 
 -- a freeze asks the question of the current cycle in a new round
 question_frozen : (day : Day) (h : History) (moment : ℕ) (reply : Reply) → question day (h ++ (Freeze moment, reply) ∷ []) ≡ record (question day h) { round = round_of h + 1 }
@@ -30,7 +30,7 @@ question_frozen day h moment reply =
     let p : Event × Reply = (Freeze moment, reply) in
     let cycle : cycle_of (h ++ p ∷ []) ≡ cycle_of h = level (cycle_of h) (cycle_more h p) in
     let round : round_of (h ++ p ∷ []) ≡ round_of h + 1 = round_more h p in
-    let elements = elements_more (elements_of day.held.pipeline) h p in
+    let elements = elements_more (elements_of day.holdings.pipeline) h p in
     let same : nominations day (h ++ p ∷ []) ≡ nominations day h = nominations_more day h p ∙ append-nil (nominations day h) in
     let counting : counted day (h ++ p ∷ []) ≡ counted day h = λ i. until (cycle i) (same i) in
     let in_effect = schedules_more h p in
@@ -59,7 +59,7 @@ freeze_more day h moment reply s stamp q is kept none asked =
       sized = sized_on day h p s kept short refl;
       confirmed = λ line. tells_on day h p s kept short refl line (λ end. response_more line end h p) (waived_more line h p) (get_or s.confirmations.items line nothing) (kept.confirmed line);
       limited = kept.limited;
-      in_force = kept.in_force ∙ sym (elements_more (elements_of day.held.pipeline) h p);
+      in_force = kept.in_force ∙ sym (elements_more (elements_of day.holdings.pipeline) h p);
       in_effect = effect_on day h p s kept short refl (schedules_more h p);
       five = kept.five;
       counted = ap length (schedules_more h p) ∙ kept.counted ∙ sym cycle;

@@ -1,9 +1,9 @@
-mod Committed
-mod Carried
+mod Commitments
+mod CarriedQuantities
 mod Sameness
-mod More
-mod Quiet
-mod Over
+mod NextEvent
+mod QuietEvents
+mod CycleEnds
 mod Nominating
 mod Own
 mod Carry

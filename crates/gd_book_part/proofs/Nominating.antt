@@ -15,22 +15,22 @@ use Rattle.gd_machine.specs.Asking.{nominations, accepted}
 use Rattle.gd_machine.specs.Machine.{tests_of, refusal_of}
 use Rattle.gd_machine.proofs.Legal.{AllFalse, all_false}
 use Rattle.gd_machine.proofs.Steps.{stamp_more, frozen_more, cut_more, waived_more, response_more, elements_more, schedules_more}
-use Rattle.gd_machine.proofs.Nominated.{nominations_more}
-use Rattle.gd_book_part.specs.Confirmed.{Tells, nothing}
+use Rattle.gd_machine.proofs.Nominations.{nominations_more}
+use Rattle.gd_book_part.specs.LineConfirmations.{Tells, nothing}
 use Rattle.gd_book_part.specs.declared.confirmations.Confirmation.{Confirmation}
 use Rattle.gd_book_part.specs.Kept.{AreTablesOf, IsFrozenAs}
 use Rattle.gd_book_part.specs.declared.tables.Tables.{Tables}
 use Rattle.gd_machine.specs.Day.{IsDay}
 use Rattle.std.specs.Prelude.{is_some}
 use Rattle.std.proofs.lemmas.Bool.{ltb-true}
-use Rattle.gd_book_part.proofs.More.{longer, few_on, cycle_on, round_on, settled_on, rounds_on, calls_up, few_calls_on, effect_on, tells_on, not_full}
+use Rattle.gd_book_part.proofs.NextEvent.{longer, few_on, cycle_on, round_on, settled_on, rounds_on, calls_up, few_calls_on, effect_on, tells_on, not_full}
 use Rattle.std.specs.List.{position_or_len, list_any}
 use Rattle.std.specs.Option.{unwrap_or}
 use Rattle.std.proofs.lemmas.List.Sums.{prefix_len-le-length, sum_by-append}
 use Rattle.gd_rules.specs.Lines.{Key, same_key, entered}
 use Rattle.gd_lines.specs.Numbering.{nomination, numbered}
 use Rattle.gd_lines.proofs.Accept.{line_is}
-use Rattle.gd_lines.proofs.Pushed.{lines_push}
+use Rattle.gd_lines.proofs.NextNomination.{lines_push}
 use Rattle.gd_system.proofs.Positions.{is_some-position}
 use Rattle.gd_question.specs.Posing.{Posed}
 use Rattle.gd_machine.specs.Day.{cycle_at}
@@ -38,10 +38,10 @@ use Rattle.gd_machine.specs.History.{stamp_of}
 use Rattle.gd_machine.specs.Asking.{class_in}
 use Rattle.gd_machine.specs.Known.{IsSound, IsClassed}
 use Rattle.gd_machine.specs.Machine.{number_of, line_number}
-use Rattle.gd_machine.proofs.Nominated.{is_nominated, is_classed}
+use Rattle.gd_machine.proofs.Nominations.{is_nominated, is_classed}
 use Rattle.gd_machine.specs.Machine.{reply_of, cycle_now}
 use Rattle.gd_machine.proofs.Staying.{question_stays}
-use Rattle.gd_book_part.proofs.More.{frozen_on}
+use Rattle.gd_book_part.proofs.NextEvent.{frozen_on}
 use Rattle.std.specs.Prelude.{Result, Ok, Err}
 use Rattle.gd_system.specs.Route.{ends_of}
 use Rattle.gd_system.specs.declared.part.Ends.{Ends}
@@ -115,7 +115,7 @@ last_test (Err fault) a b c all = absurd (false≢true (sym all.0))
 nominate_short : (day : Day) (h : History) (moment : ℕ) (party : List ℕ) (key : Key) (amount : ℕ) → refusal_of day h (Nominate moment party key amount) ≡ None → length h < 1_000_000
 nominate_short day h moment party key amount none =
     let tests = all_false (tests_of day h (Nominate moment party key amount)) none in
-    not_full h (last_test (ends_of day.held.pipeline key.origin key.dest) _ _ _ tests.1.1.1)
+    not_full h (last_test (ends_of day.holdings.pipeline key.origin key.dest) _ _ _ tests.1.1.1)
 
 pub nominate_more : (day : Day) (h : History) (moment : ℕ) (party : List ℕ) (key : Key) (amount : ℕ) (s : Tables) (stamp cycle class line : ℕ) (lines : List Nomination) (entries : Vec Confirmation)
     → stamp ≡ max s.stamp moment → AreTablesOf day s h → IsSound day h → refusal_of day h (Nominate moment party key amount) ≡ None
@@ -141,7 +141,7 @@ nominate_more day h moment party key amount s stamp cycle class line lines entri
       sized = ap length entered_is ∙ sized_entered (lines_of s.lines) key s.confirmations.items line (line_is s.lines key line number) (kept.sized ∙ ap (λ (ns : List Nomination). length (lines_of ns)) (sym kept.lines)) ∙ ap length (sym (lines_push s.lines (nomination key cycle class amount)) ∙ ap lines_of (sym done)) ∙ ap (λ (ns : List Nomination). length (lines_of ns)) lines_is;
       confirmed = λ other. subst (Tells (h ++ p ∷ []) other) (sym (ap (λ es. get_or es other nothing) entered_is ∙ same_entry s.confirmations.items line other)) (tells_on day h p s kept short refl other (λ end. response_more other end h p) (waived_more other h p) (get_or s.confirmations.items other nothing) (kept.confirmed other));
       limited = kept.limited;
-      in_force = kept.in_force ∙ sym (elements_more (elements_of day.held.pipeline) h p);
+      in_force = kept.in_force ∙ sym (elements_more (elements_of day.holdings.pipeline) h p);
       in_effect = effect_on day h p s kept short refl (schedules_more h p);
       five = kept.five;
       counted = ap length (schedules_more h p) ∙ kept.counted ∙ sym (cycle_on day h p s kept short refl);
@@ -160,4 +160,4 @@ nominate_more day h moment party key amount s stamp cycle class line lines entri
 pub nominate_classed : (day : Day) (h : History) (moment : ℕ) (party : List ℕ) (key : Key) (amount : ℕ) → IsDay day → refusal_of day h (Nominate moment party key amount) ≡ None → IsClassed day key
 nominate_classed day h moment party key amount is_day none =
     let n = is_nominated day h moment party key amount (number_of h) (cycle_now day h (Nominate moment party key amount)) (line_number day h key) (none, refl) in
-    is_classed day key n.agreed n.ends is_day.held n.found n.routed
+    is_classed day key n.agreed n.ends is_day.holdings n.found n.routed

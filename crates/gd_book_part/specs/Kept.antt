@@ -11,7 +11,7 @@ use Rattle.gd_machine.specs.declared.reply.Reply.{Reply}
 use Rattle.gd_machine.specs.Day.{Day}
 use Rattle.gd_machine.specs.History.{History, last_stamp, cycle_of, round_of, is_frozen, has_cut, schedules, elements_in_force, session_calls}
 use Rattle.gd_machine.specs.Asking.{nominations, accepted, question}
-use Rattle.gd_book_part.specs.Confirmed.{Tells, nothing}
+use Rattle.gd_book_part.specs.LineConfirmations.{Tells, nothing}
 use Rattle.gd_book_part.specs.declared.tables.Tables.{Tables}
 
 -- A question is kept exactly while the cycle is frozen, and it is the frozen one.
@@ -38,8 +38,8 @@ pub record AreTablesOf (day : Day) (t : Tables) (h : History) : Type 0 where
   -- one entry for each line
   pub sized : length t.confirmations.items ≡ length (lines_of (nominations day h))
   pub confirmed : (line : ℕ) → Tells h line (get_or t.confirmations.items line nothing)
-  pub limited : length t.capacities.items ≡ length day.held.pipeline.tree + length day.held.pipeline.points
-  pub in_force : in_force (elements_of day.held.pipeline) t.capacities.items ≡ elements_in_force (elements_of day.held.pipeline) h
+  pub limited : length t.capacities.items ≡ length day.holdings.pipeline.tree + length day.holdings.pipeline.points
+  pub in_force : in_force (elements_of day.holdings.pipeline) t.capacities.items ≡ elements_in_force (elements_of day.holdings.pipeline) h
   pub in_effect : AreInEffect h t.published
   pub five : length t.published ≡ cycles
   -- there is a schedule in effect for the time before Timely, which is empty, and for each cycle that is over

@@ -1,4 +1,4 @@
 pub mod Names
-pub mod Confirmed
+pub mod LineConfirmations
 pub mod Kept
 pub mod Asking

@@ -17,7 +17,7 @@ pub(crate) struct Confirmation {
 }
 
 impl Confirmation {
-    ghost use Rattle.gd_book_part.specs.Confirmed.{nothing};
+    ghost use Rattle.gd_book_part.specs.LineConfirmations.{nothing};
 
     /// Nothing, for no cycle.
     pub(crate) fn nothing() -> Confirmation

@@ -62,14 +62,14 @@ impl Model for Opening {
 
     ghost view = { λ o. record {
       name = o.name;
-      held = o.contracts;
+      holdings = o.contracts;
       moments = o.calendar;
       carry = o.carry.entries;
     } };
 
     ghost invariant = { λ o. IsDay (record {
       name = o.name;
-      held = o.contracts;
+      holdings = o.contracts;
       moments = o.calendar;
       carry = o.carry.entries;
     }) };
@@ -120,7 +120,7 @@ impl Opening {
         carry: Vec<(LineKey, Dth)>,
     ) -> Result<Opening, OpenFault>
         ensures values { IfOk result (λ opening. opening
-            ≡ record { name = name; held = contracts; moments = calendar; carry = carry.items }) }
+            ≡ record { name = name; holdings = contracts; moments = calendar; carry = carry.items }) }
         ensures fault { IfErr result (ExplainsOpen carry.items) }
     {
         contracts.known();
@@ -160,7 +160,7 @@ impl Opening {
 
     /// The contracts, with the pipeline that they are on.
     pub fn contracts(&self) -> &Contracts
-        ensures { result.now ≡ self.now.held }
+        ensures { result.now ≡ self.now.holdings }
     {
         &self.contracts
     }

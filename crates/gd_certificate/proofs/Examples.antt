@@ -9,7 +9,7 @@ use Rattle.gd_rules.specs.Priced.{crossed}
 use Rattle.gd_tree.specs.Levels.{RisesBy}
 use Rattle.gd_system.specs.Pipeline.{Pipeline}
 use Rattle.gd_units.specs.declared.service.Kind.TheVariants as kind
-use Rattle.gd_certificate.specs.Paid.{origin_price}
+use Rattle.gd_certificate.specs.Payments.{origin_price}
 use Rattle.gd_certificate.specs.Levels.{level}
 use Rattle.gd_certificate.specs.Cutting.{Members, side_of, IsShaped}
 

@@ -7,9 +7,9 @@ use Rattle.gd_rules.specs.Question.{Element, Question, element, line}
 use Rattle.gd_rules.specs.Question.Element.{Segment, Receipt, Delivery, Pool}
 use Rattle.gd_rules.specs.Priced.{price, crossed}
 use Rattle.gd_rules.specs.Tree.{IsLine, place_of}
-use Rattle.gd_rules.proofs.Crossed as Crossed
+use Rattle.gd_rules.proofs.LinePayments as Crossed
 use Rattle.gd_tree.proofs.Levels.{crossed_by_levels}
-use Rattle.gd_certificate.specs.Paid.{origin_price}
+use Rattle.gd_certificate.specs.Payments.{origin_price}
 use Rattle.gd_certificate.specs.Levels.{HasLevels, level}
 
 module _ {V : Type 0} (s : Scale V) (l : IsLawful s) where

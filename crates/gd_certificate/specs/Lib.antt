@@ -1,5 +1,5 @@
 pub mod Exact
-pub mod Paid
+pub mod Payments
 pub mod Levels
 pub mod Loads
 pub mod Names

@@ -7,7 +7,7 @@ ghost use Rattle.gd_rules.specs.Tree.{CanSend, place_of};
 ghost use Rattle.gd_rules.specs.Limits.{most_price_word};
 ghost use Rattle.gd_rules.specs.Priced.{price, crossed, margin as margin_of};
 ghost use Rattle.gd_system.specs.Pipeline.{element_of};
-ghost use Rattle.gd_certificate.specs.Paid.{ClearsLimit, origin_price};
+ghost use Rattle.gd_certificate.specs.Payments.{ClearsLimit, origin_price};
 ghost use Rattle.gd_certificate.specs.Levels.{HasLevels, AreReady, level};
 
 use gd_cost::{ByClass, Cost};

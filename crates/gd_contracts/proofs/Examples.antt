@@ -8,8 +8,8 @@ use Rattle.gd_system.specs.declared.part.Point.{Point}
 use Rattle.gd_system.specs.declared.RouteFault.TheVariants.{UnknownEnd, WrongEnd, SameEnd, NoRoute}
 use Rattle.gd_units.specs.declared.service.Kind.{Kind}
 use Rattle.gd_units.specs.declared.service.Kind.TheVariants.{Receipt, Delivery}
-use Rattle.gd_contracts.specs.Held.{Held, none_on, routed_within, after_contract}
-use Rattle.gd_contracts.specs.Classes.{class_told}
+use Rattle.gd_contracts.specs.Holdings.{Holdings, none_on, routed_within, after_contract}
+use Rattle.gd_contracts.specs.Classes.{class_answer}
 use Rattle.gd_contracts.specs.declared.contract.Contract.{Contract}
 use Rattle.gd_contracts.specs.declared.contract.Service.{Service}
 use Rattle.gd_contracts.specs.declared.contract.Service.TheVariants.{Firm, Interruptible}
@@ -79,22 +79,22 @@ firm = contract f (Firm r1 d1)
 abbrev interruptible : Contract
 interruptible = contract i (Interruptible 3)
 
-abbrev held : Held
-held = record { pipeline = small; contracts = firm ∷ interruptible ∷ [] }
+abbrev holdings : Holdings
+holdings = record { pipeline = small; contracts = firm ∷ interruptible ∷ [] }
 
-abbrev one_held : Held
-one_held = record { pipeline = small; contracts = firm ∷ [] }
+abbrev one_holding : Holdings
+one_holding = record { pipeline = small; contracts = firm ∷ [] }
 
 -- contracts are entered in turn
-first : after_contract (none_on small) firm ≡ Ok one_held
+first : after_contract (none_on small) firm ≡ Ok one_holding
 unfolding walk
 first = refl
 
-second : after_contract one_held interruptible ≡ Ok held
+second : after_contract one_holding interruptible ≡ Ok holdings
 second = refl
 
 -- a name that is there comes before ends that are unknown
-again : after_contract held (contract i (Firm nowhere nowhere)) ≡ Err Duplicate
+again : after_contract holdings (contract i (Firm nowhere nowhere)) ≡ Err Duplicate
 again = refl
 
 -- primary ends with no route: unknown, turned, and against the segments
@@ -116,56 +116,56 @@ no_place : routed_within 4096 None ≡ Err TooMany
 no_place = refl
 
 -- from the primary receipt to the primary delivery
-primary : class_told held f r1 d1 ≡ Ok 1
+primary : class_answer holdings f r1 d1 ≡ Ok 1
 unfolding walk
 primary = refl
 
 -- to a delivery at B, on the way
-on_the_way : class_told held f r1 db ≡ Ok 2
+on_the_way : class_answer holdings f r1 db ≡ Ok 2
 unfolding walk
 on_the_way = refl
 
 -- into a pool at B and out of it
-into_pool : class_told held f r1 hub ≡ Ok 2
+into_pool : class_answer holdings f r1 hub ≡ Ok 2
 unfolding walk
 into_pool = refl
 
-out_of_pool : class_told held f hub d1 ≡ Ok 2
+out_of_pool : class_answer holdings f hub d1 ≡ Ok 2
 unfolding walk
 out_of_pool = refl
 
 -- at E alone, on the branch: no segment is passed
-at_one_place : class_told held f re de ≡ Ok 2
+at_one_place : class_answer holdings f re de ≡ Ok 2
 unfolding walk
 at_one_place = refl
 
 -- to E, over S1 on the way and S3 off it
-off_the_way : class_told held f r1 de ≡ Ok 3
+off_the_way : class_answer holdings f r1 de ≡ Ok 3
 unfolding walk
 off_the_way = refl
 
-wrong : class_told held f d1 r1 ≡ Err (Route WrongEnd)
+wrong : class_answer holdings f d1 r1 ≡ Err (Route WrongEnd)
 wrong = refl
 
-against : class_told held f rc da ≡ Err (Route NoRoute)
+against : class_answer holdings f rc da ≡ Err (Route NoRoute)
 unfolding walk
 against = refl
 
-same : class_told held f hub hub ≡ Err (Route SameEnd)
+same : class_answer holdings f hub hub ≡ Err (Route SameEnd)
 same = refl
 
 -- interruptible service at band 3, for any line with a route
-band_three : class_told held i r1 d1 ≡ Ok 6
+band_three : class_answer holdings i r1 d1 ≡ Ok 6
 unfolding walk
 band_three = refl
 
-band_three_branch : class_told held i r1 de ≡ Ok 6
+band_three_branch : class_answer holdings i r1 de ≡ Ok 6
 unfolding walk
 band_three_branch = refl
 
 -- an unknown contract comes before unknown ends
-unknown_first : class_told held nowhere nowhere nowhere ≡ Err UnknownContract
+unknown_first : class_answer holdings nowhere nowhere nowhere ≡ Err UnknownContract
 unknown_first = refl
 
-unknown_end : class_told held f nowhere d1 ≡ Err (Route UnknownEnd)
+unknown_end : class_answer holdings f nowhere d1 ≡ Err (Route UnknownEnd)
 unknown_end = refl

@@ -9,9 +9,9 @@ use Rattle.gd_rules.specs.Question.Element.{Segment, Receipt, Delivery, Pool}
 use Rattle.gd_rules.specs.Tree.{LeadsTo, Follows}
 use Rattle.gd_rules.specs.Class.{lies_on}
 use Rattle.gd_tree.specs.Grown.{IsGrown, walk_of, route_of, Runs, has_route}
-use Rattle.gd_tree.proofs.Along.{runs_yes, runs_so}
+use Rattle.gd_tree.proofs.Directions.{runs_yes, runs_so}
 use Rattle.gd_tree.proofs.Steps.{route_same}
-use Rattle.gd_contracts.proofs.Graded.{follows_is, follows_runs}
+use Rattle.gd_contracts.proofs.Levels.{follows_is, follows_runs}
 
 abbrev segments : List (ℕ × ℕ) → List ℕ
 segments steps = map (λ s. s.0) steps

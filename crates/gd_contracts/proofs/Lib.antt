@@ -1,5 +1,5 @@
-pub mod Graded
+pub mod Levels
 pub mod InPath
-pub mod Named
-pub mod Classed
+pub mod ContractNames
+pub mod ClassAnswers
 mod Examples

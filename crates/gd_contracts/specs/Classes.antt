@@ -6,7 +6,7 @@ use Rattle.gd_system.specs.Pipeline.{Pipeline, elements_of}
 use Rattle.gd_system.specs.Route.{ends_of, IsTheRoute}
 use Rattle.gd_system.specs.declared.part.Ends.{Ends}
 use Rattle.gd_system.specs.declared.RouteFault.{RouteFault}
-use Rattle.gd_contracts.specs.Held.{Held, contract_named}
+use Rattle.gd_contracts.specs.Holdings.{Holdings, contract_named}
 use Rattle.gd_contracts.specs.declared.contract.Contract.{Contract}
 use Rattle.gd_contracts.specs.declared.contract.Service.{Service}
 use Rattle.gd_contracts.specs.declared.contract.Service.TheVariants.{Firm, Interruptible}
@@ -39,8 +39,8 @@ class_under p None line = Err UnknownContract
 class_under p (Some contract) line = class_routed p contract.service line
 
 -- The class of a line between two names under the contract of a name, or the first refusal.
-abbrev pub class_told : Held → List ℕ → List ℕ → List ℕ → Result ℕ ClassFault
-class_told h contract origin dest = class_under h.pipeline (contract_named h.contracts contract) (ends_of h.pipeline origin dest)
+abbrev pub class_answer : Holdings → List ℕ → List ℕ → List ℕ → Result ℕ ClassFault
+class_answer h contract origin dest = class_under h.pipeline (contract_named h.contracts contract) (ends_of h.pipeline origin dest)
 
 -- The class of the tariff for a line between these ends over this route: for firm service by its primary ends and the one route between them.
 abbrev pub IsClass : Pipeline → Service → Ends → List ℕ → ℕ → Type 0
@@ -50,7 +50,7 @@ IsClass p (Firm origin dest) line route class =
 IsClass p (Interruptible band) line route class = class ≡ rules.class_of (rules.Service.Interruptible band) line.origin.0 line.dest.0 route
 
 -- There is such a contract, one route leads from the origin to the destination, and the line over it has this class.
-pub record HasClass (h : Held) (contract origin dest : List ℕ) (class : ℕ) : Type 0 where
+pub record HasClass (h : Holdings) (contract origin dest : List ℕ) (class : ℕ) : Type 0 where
   pub agreed : Contract
   pub line : Ends
   pub route : List ℕ

@@ -6,7 +6,7 @@ use Rattle.gd_system.specs.Pipeline.{Pipeline, same_name}
 use Rattle.gd_system.specs.Route.{ends_of}
 use Rattle.gd_system.specs.Known.{IsSystem}
 use Rattle.gd_system.specs.declared.part.Ends.{Ends}
-use Rattle.gd_contracts.specs.Held.{Held}
+use Rattle.gd_contracts.specs.Holdings.{Holdings}
 use Rattle.gd_contracts.specs.declared.contract.Service.{Service}
 use Rattle.gd_contracts.specs.declared.contract.Service.TheVariants.{Firm, Interruptible}
 
@@ -21,7 +21,7 @@ IsServed p (Firm origin dest) = (ends : Ends) × (ends_of p origin dest ≡ Ok e
 IsServed p (Interruptible band) = IsBanded (Interruptible band)
 
 -- No two contracts have one name, and the service of each is one that the pipeline has.
-pub record IsHeld (h : Held) : Type 0 where
+pub record AreHoldings (h : Holdings) : Type 0 where
   pub system : IsSystem h.pipeline
   pub few : length h.contracts ≤ most_contracts
   pub distinct : IsDistinct same_name (map (λ c. c.name) h.contracts)

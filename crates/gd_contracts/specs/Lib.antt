@@ -1,4 +1,4 @@
-pub mod Held
+pub mod Holdings
 pub mod Known
 pub mod Names
 pub mod Classes

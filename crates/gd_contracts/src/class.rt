@@ -5,9 +5,9 @@ ghost use Rattle.gd_rules.specs.Class.{lies_on, class_of as class_by};
 ghost use Rattle.gd_rules.specs.Class.Service.{Firm as firm};
 ghost use Rattle.gd_system.specs.Route.{ends_of, AreEnds};
 ghost use Rattle.gd_system.specs.declared.RouteFault.{RouteFault};
-ghost use Rattle.gd_contracts.specs.Held.{Held, contract_named};
-ghost use Rattle.gd_contracts.specs.Known.{IsHeld, IsServed};
-ghost use Rattle.gd_contracts.specs.Classes.{route_between, bought, class_between, class_told, HasClass};
+ghost use Rattle.gd_contracts.specs.Holdings.{Holdings, contract_named};
+ghost use Rattle.gd_contracts.specs.Known.{AreHoldings, IsServed};
+ghost use Rattle.gd_contracts.specs.Classes.{route_between, bought, class_between, class_answer, HasClass};
 
 use crate::{ClassFault, Contracts, Service};
 use gd_system::{Ends, System};
@@ -15,9 +15,9 @@ use gd_units::{Class, Name};
 
 /// A class that is told is that of the tariff, for the one primary route and the one route of the line.
 pub fn classes_are()
-    ensures { (held : Held) (contract origin dest : List ℕ) (class : ℕ) → IsHeld held
-        → class_told held contract origin dest ≡ Ok class
-        → HasClass held contract origin dest class }
+    ensures { (holdings : Holdings) (contract origin dest : List ℕ) (class : ℕ) → AreHoldings holdings
+        → class_answer holdings contract origin dest ≡ Ok class
+        → HasClass holdings contract origin dest class }
 {}
 
 /// The class of this number.
@@ -86,7 +86,7 @@ impl Contracts {
     ///
     /// `UnknownContract`, and else the first refusal of the route.
     pub fn class_of(&self, contract: Name, origin: Name, dest: Name) -> Result<Class, ClassFault>
-        ensures is { result ≡ class_told self.now contract origin dest }
+        ensures is { result ≡ class_answer self.now contract origin dest }
         ensures classed { IfOk result (HasClass self.now contract origin dest) }
         ensures unknown { (result ≡ Err ClassFault.UnknownContract)
             ↔ (contract_named self.now.contracts contract ≡ None) }

@@ -1,9 +1,9 @@
 //! The contracts held on a pipeline: what is refused, and what can be read of them.
 
 ghost use Rattle.std.specs.Prelude.{◌≡◌, ◌<◌, ◌==◌, ◌++◌, ◌∷◌, [], length, None, Some, IfErr, OnOk, OnErr, Ok, Err, ◌⊎◌};
-ghost use Rattle.gd_contracts.specs.Held.{none_on, contract_named, checked_contract, after_contract};
-ghost use Rattle.gd_contracts.specs.Held as spec;
-ghost use Rattle.gd_contracts.specs.Known.{IsHeld, IsBanded};
+ghost use Rattle.gd_contracts.specs.Holdings.{none_on, contract_named, checked_contract, after_contract};
+ghost use Rattle.gd_contracts.specs.Holdings as spec;
+ghost use Rattle.gd_contracts.specs.Known.{AreHoldings, IsBanded};
 ghost use Rattle.gd_contracts.specs.Inside.{contract_of};
 ghost use Rattle.gd_system.specs.Pipeline.{same_name};
 ghost use Rattle.indexmap.specs.IndexMap.{spare, get, IsUnique};
@@ -71,15 +71,15 @@ pub struct Contracts {
 }
 
 impl Model for Contracts {
-    ghost use Rattle.gd_contracts.specs.Held.{Held};
+    ghost use Rattle.gd_contracts.specs.Holdings.{Holdings};
 
-    ghost Value = { Held };
+    ghost Value = { Holdings };
 
-    ghost use Rattle.gd_contracts.specs.Inside.{held_of, IsHeldInside};
+    ghost use Rattle.gd_contracts.specs.Inside.{holdings_of, AreHoldingsInside};
 
-    ghost view = { held_of };
+    ghost view = { holdings_of };
 
-    ghost invariant = { IsHeldInside };
+    ghost invariant = { AreHoldingsInside };
 }
 
 impl Contracts {
@@ -96,7 +96,7 @@ impl Contracts {
 
     /// What holds of all contracts.
     pub fn known(&self)
-        ensures { IsHeld self.now }
+        ensures { AreHoldings self.now }
     {
         let _ = &self.terms;
     }

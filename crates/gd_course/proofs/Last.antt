@@ -63,7 +63,7 @@ shaped_by p cut e =
     (eqb-true _ _ first.0, eqb-true _ _ later.0, eqb-true _ _ later.1)
 
 -- the cut of an accepted declare is one of the pipeline
-pub shaped : (day : Day) (h : History) (moment round : ℕ) (cut : Members) (r : Reply) → IsAccepted day h (event.Declare moment round cut, r) → IsShaped day.held.pipeline cut
+pub shaped : (day : Day) (h : History) (moment round : ℕ) (cut : Members) (r : Reply) → IsAccepted day h (event.Declare moment round cut, r) → IsShaped day.holdings.pipeline cut
 shaped day h moment round cut r accepted =
     let tests = all_false (tests_of day h (event.Declare moment round cut)) accepted.0 in
-    shaped_by day.held.pipeline cut (not_false (is_shaped day.held.pipeline cut) tests.1.1.0)
+    shaped_by day.holdings.pipeline cut (not_false (is_shaped day.holdings.pipeline cut) tests.1.1.0)

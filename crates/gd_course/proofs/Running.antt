@@ -7,7 +7,7 @@ use Rattle.gd_text_part.specs.declared.row.EventRow.{EventRow}
 use Rattle.gd_text_part.specs.declared.row.Row.{Row}
 use Rattle.gd_day.specs.Calls.{Call, event_of, calls_of}
 use Rattle.gd_day.specs.Groups.{Passes, AllPass}
-use Rattle.gd_day.proofs.Called.{calls_left, call_at, passes_over, comes_to, none_left}
+use Rattle.gd_day.proofs.CallGroups.{calls_left, call_at, passes_over, comes_to, none_left}
 use Rattle.gd_machine.specs.Day.{Day}
 use Rattle.gd_machine.specs.History.{History}
 use Rattle.gd_replies.specs.declared.reply.Reply.{Reply}

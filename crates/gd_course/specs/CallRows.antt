@@ -23,7 +23,7 @@ accepted_rows day h e (book.Frozen number cycle round lines) = frozen_rows numbe
 accepted_rows day h (event.Publish moment certificate) (book.Published number cycle round bumped) =
     published_rows number cycle round certificate bumped
 accepted_rows day h (event.Declare moment asked cut) (book.Declared number cycle round) =
-    declared_rows number cycle round day.held.pipeline cut
+    declared_rows number cycle round day.holdings.pipeline cut
 accepted_rows day h e r = []
 
 -- What is told of a call's answer: what it gave, or why it is refused.

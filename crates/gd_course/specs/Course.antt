@@ -55,7 +55,7 @@ Publishes day h moment round group rows after =
     ⊎ ((is_frozen h ≡ true) × (round ≢ round_of h)
     × Stays (reply.Refused call.Publish (refusal.StaleRound (round_of h))) h rows after)
     ⊎ ((is_frozen h ≡ true) × (round ≡ round_of h)
-    × ((schedule : List ℕ) × (prices : Tariffs) × Offers day.held.pipeline group schedule prices
+    × ((schedule : List ℕ) × (prices : Tariffs) × Offers day.holdings.pipeline group schedule prices
     × PublishesFrozen day h moment schedule prices rows after))
 
 -- The frozen question is solved: a best schedule is published with prices that show it best, or the cycle is declared by a
@@ -71,7 +71,7 @@ Settles day h moment rows after =
 -- The set that the rows before a call name shows that the frozen question of a round has no allowed schedule.
 abbrev pub Declares : Day → History → ℕ → ℕ → List Row → List Reply → History → Type 0
 Declares day h moment round group rows after =
-    (cut : Members) × (members_of group day.held.pipeline ≡ Ok cut)
+    (cut : Members) × (members_of group day.holdings.pipeline ≡ Ok cut)
     × Steps call.Declare day h (event.Declare moment round cut) rows after
 
 -- What a row with the rows of its group before it does to the book, and what is told of it. Rows count lines from 1.
@@ -81,7 +81,7 @@ RowGives day h group (row.Nominate moment party key quantity) rows after =
 RowGives day h group (row.Respond moment party line end quantity) rows after =
     Steps call.Respond day h (event.Respond moment party (line - 1) end quantity) rows after
 RowGives day h group (row.Post moment element capacity) rows after =
-    Steps call.Post day h (event.PostCapacity moment (element_named day.held.pipeline element) capacity) rows after
+    Steps call.Post day h (event.PostCapacity moment (element_named day.holdings.pipeline element) capacity) rows after
 RowGives day h group (row.Freeze moment) rows after = Steps call.Freeze day h (event.Freeze moment) rows after
 RowGives day h group (row.Settle moment) rows after = Settles day h moment rows after
 RowGives day h group (row.Publish moment round) rows after = Publishes day h moment round group rows after

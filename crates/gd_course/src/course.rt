@@ -28,7 +28,7 @@ pub fn run(
     told: &mut Vec<Reply>,
 ) -> Result<(), AllocError>
     requires board { note.old.cells ≡ board.now }
-    requires pass { AllPass book.old.day.held.pipeline (calls_of rows.now) }
+    requires pass { AllPass book.old.day.holdings.pipeline (calls_of rows.now) }
     requires empty { told.old.items ≡ [] }
     ensures ok { OnOk result (spec.Runs book.old.day book.old.history
         (calls_of rows.now) told.new.items book.new.history) }

@@ -62,7 +62,7 @@ fn post(
     capacity: Dth,
 ) -> Result<Vec<Reply>, AllocError>
     ensures gives { IfOk result (λ rows. Steps Call.Post book.old.day book.old.history
-        (event.PostCapacity moment (named.element_named book.old.day.held.pipeline element) capacity)
+        (event.PostCapacity moment (named.element_named book.old.day.holdings.pipeline element) capacity)
         rows.items book.new.history) }
     ensures day { book.new.day ≡ book.old.day }
 {
@@ -119,7 +119,7 @@ fn publish(
     group: &[Row],
 ) -> Result<Vec<Reply>, AllocError>
     requires board { note.old.cells ≡ board.now }
-    requires passes { Passes book.old.day.held.pipeline group.now }
+    requires passes { Passes book.old.day.holdings.pipeline group.now }
     ensures gives { IfOk result
         (λ rows. spec.Publishes book.old.day book.old.history moment round group.now
         rows.items book.new.history) }
@@ -154,7 +154,7 @@ fn declare(
     round: Round,
     group: &[Row],
 ) -> Result<Vec<Reply>, AllocError>
-    requires { Passes book.old.day.held.pipeline group.now }
+    requires { Passes book.old.day.holdings.pipeline group.now }
     ensures gives { IfOk result
         (λ rows. spec.Declares book.old.day book.old.history moment round group.now
         rows.items book.new.history) }
@@ -175,7 +175,7 @@ pub(crate) fn make_call(
     row: EventRow,
 ) -> Result<Vec<Reply>, AllocError>
     requires board { note.old.cells ≡ board.now }
-    requires passes { Passes book.old.day.held.pipeline group.now }
+    requires passes { Passes book.old.day.holdings.pipeline group.now }
     ensures gives { IfOk result (λ rows. spec.RowGives book.old.day book.old.history group.now row
         rows.items book.new.history) }
     ensures day { book.new.day ≡ book.old.day }

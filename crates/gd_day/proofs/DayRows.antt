@@ -61,7 +61,7 @@ opens : opened_of (before ++ calls)
       date = today;
       zone = codes "CST6CDT";
       book = codes "NORTH";
-      held = record {
+      holdings = record {
         pipeline = record {
           places = codes "A" ∷ codes "B" ∷ [];
           segments = codes "S1" ∷ [];

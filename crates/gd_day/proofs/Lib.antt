@@ -1,5 +1,5 @@
-pub mod Freely
-pub mod Marked
+pub mod RowNumbers
+pub mod MarkTables
 pub mod Insides
-pub mod Called
+pub mod CallGroups
 pub mod DayRows

@@ -5,7 +5,7 @@ use Rattle.gd_text_part.specs.Places.{missing_head}
 use Rattle.gd_text_part.specs.declared.fault.TextFault.{TextFault}
 use Rattle.gd_text_part.specs.declared.row.Row.{Row}
 use Rattle.gd_text_part.specs.declared.row.Row.TheVariants as row
-use Rattle.gd_text.specs.Building.{told_at}
+use Rattle.gd_text.specs.Building.{row_fault}
 
 -- The date, the zone and the name of the book.
 abbrev pub Head : Type 0
@@ -22,7 +22,7 @@ first_head (row.Day date zone book ∷ rows) = with_book date zone book
 first_head (r ∷ rows) = first_head rows
 
 abbrev pub head_under : List Row → Option Head → Result Head TextFault
-head_under rows None = Err (told_at (missing_head (length rows)))
+head_under rows None = Err (row_fault (missing_head (length rows)))
 head_under rows (Some head) = Ok head
 
 -- The head of a text, or that it has none.

@@ -1,7 +1,7 @@
 -- What the book of a gas day is opened with, as the rows of a text say.
 use Rattle.std.specs.Prelude.{ℕ, List, Result, Ok}
 use Rattle.gd_rules.specs.Lines.{Key}
-use Rattle.gd_contracts.specs.Held.{Held}
+use Rattle.gd_contracts.specs.Holdings.{Holdings}
 use Rattle.gd_text_part.specs.Dates.{YearMonthDay}
 use Rattle.gd_text_part.specs.Rows.{◌>>=◌}
 use Rattle.gd_text_part.specs.declared.fault.TextFault.{TextFault}
@@ -19,7 +19,7 @@ pub record Opened : Type 0 where
   pub date : YearMonthDay
   pub zone : List ℕ
   pub book : List ℕ
-  pub held : Held
+  pub holdings : Holdings
   pub carry : List (Key × ℕ)
 
 -- The values are made one after the other, each from all rows; or the first refusal. The prices and the sets that stand
@@ -27,8 +27,8 @@ pub record Opened : Type 0 where
 abbrev pub opened_of : List Row → Result Opened TextFault
 opened_of rows = do
   pipeline ← pipeline_of rows
-  held ← contracts_on rows pipeline
+  holdings ← contracts_on rows pipeline
   head ← head_of rows
   carry ← carry_of rows
-  made ← checked_calls held.pipeline (calls_of rows)
-  Ok (record { date = head.0; zone = head.1; book = head.2; held = held; carry = carry })
+  made ← checked_calls holdings.pipeline (calls_of rows)
+  Ok (record { date = head.0; zone = head.1; book = head.2; holdings = holdings; carry = carry })

@@ -10,7 +10,7 @@ use gd_text_part::{Cause, Row, TextFault};
 use std::alloc::Global;
 
 fn contract_fault(row: u64, fault: ContractFault) -> TextFault
-    ensures { result ≡ spec.contract_told row fault }
+    ensures { result ≡ spec.contract_fault_at row fault }
 {
     match fault {
         ContractFault::OutOfMemory => TextFault::OutOfMemory,

@@ -49,7 +49,7 @@ pub fn day_text_of(alloc: Global, rows: &[Row]) -> Result<DayText, TextFault>
           date = d.date;
           zone = d.zone;
           book = d.book;
-          held = d.contracts;
+          holdings = d.contracts;
           carry = d.carry.items;
         })
         result (spec.opened_of rows.now) }

@@ -1,6 +1,6 @@
 pub mod Order
 pub mod Chains
-pub mod Apart
+pub mod SeparateLinks
 pub mod Trails
 pub mod Raise
 pub mod Roots

@@ -15,7 +15,7 @@ use Rattle.gd_lines.specs.declared.fault.LinesFault.TheVariants.{TooManyLines}
 use Rattle.gd_lines.specs.declared.state.State.{State}
 use Rattle.gd_lines.specs.declared.state.Accepted.{Accepted}
 use Rattle.gd_lines.proofs.Same.{key_self}
-use Rattle.gd_lines.proofs.Pushed.{tail}
+use Rattle.gd_lines.proofs.NextNomination.{tail}
 use Rattle.gd_lines.proofs.Lockstep.{apart}
 
 -- ---- numbers

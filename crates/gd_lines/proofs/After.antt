@@ -13,10 +13,10 @@ use Rattle.gd_lines.specs.Kept.{nomination_of, no_state, blank, EachLine, TellsN
 use Rattle.gd_lines.specs.declared.state.State.{State}
 use Rattle.gd_lines.specs.declared.state.Accepted.{Accepted}
 use Rattle.gd_lines.proofs.Same.{key_self, key_other, name_is, name_self}
-use Rattle.gd_lines.proofs.Pushed as pushed
+use Rattle.gd_lines.proofs.NextNomination as pushed
 use Rattle.gd_lines.proofs.Sums.{total, part, total_changed, part_within, total_small, total_entered}
 use Rattle.gd_lines.proofs.Lockstep.{zeros, each_one, apart}
-use Rattle.gd_lines.proofs.Entered as entry
+use Rattle.gd_lines.proofs.NewLines as entry
 
 -- ---- the last quantity of a line is small, and that of its last cycle
 last_small : (ns : List Nomination) (a : ℕ) → a ≤ 1000000000 → All IsBounded ns → fold (λ former n. n.quantity) a ns ≤ 1000000000

@@ -1,7 +1,7 @@
 pub mod Same
-pub mod Pushed
+pub mod NextNomination
 pub mod Sums
 pub mod Lockstep
-pub mod Entered
+pub mod NewLines
 pub mod After
 pub mod Accept

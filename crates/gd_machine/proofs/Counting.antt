@@ -6,7 +6,7 @@ use Rattle.std.proofs.lemmas.Bool.{leb-true, le-leb}
 use Rattle.std.proofs.lemmas.List.{length-append, append-nil}
 use Rattle.std.proofs.lemmas.List.Sums.{sum_by-append, fold-append}
 use Rattle.std.proofs.lemmas.List.Elements.{filter-append}
-use Rattle.gd_lines.proofs.Pushed.{filter_all, filter_yes, filter_no}
+use Rattle.gd_lines.proofs.NextNomination.{filter_all, filter_yes, filter_no}
 use Rattle.gd_rules.specs.Lines.{Key, Nomination, until, lines_of, entered, same_key}
 use Rattle.gd_machine.specs.declared.event.Event.{Event}
 use Rattle.gd_machine.specs.declared.event.Event.TheVariants.{Nominate}
@@ -16,7 +16,7 @@ use Rattle.gd_machine.specs.Day.{Day}
 use Rattle.gd_machine.specs.History.{History, ends_cycle, is_freeze, cycle_of, round_of, stamp_of}
 use Rattle.gd_machine.specs.Asking.{nomination_of, nominations, class_in, line_count}
 use Rattle.gd_machine.specs.Machine.{IsAccepted, IsLegal}
-use Rattle.gd_machine.proofs.Nominated.{nominations_more, is_nominated, Rising, prefix_rising}
+use Rattle.gd_machine.proofs.Nominations.{nominations_more, is_nominated, Rising, prefix_rising}
 use Rattle.gd_machine.proofs.Prefixes.{after_each}
 use Rattle.gd_lines.specs.Numbering.{nomination}
 

@@ -12,7 +12,7 @@ use Rattle.gd_rules.specs.Question.{Line, line, no_line}
 use Rattle.gd_rules.specs.Schedule.{quantity, IsAllowed}
 use Rattle.gd_rules.specs.Lines.{Key, Nomination, lines_of, entered, same_key, no_key}
 use Rattle.gd_rules.proofs.Elapsed.{after_within}
-use Rattle.gd_rules.proofs.Between.{floor_above}
+use Rattle.gd_rules.proofs.FloorBounds.{floor_above}
 use Rattle.gd_system.specs.Pipeline.{Pipeline}
 use Rattle.gd_system.specs.Route.{ends_of}
 use Rattle.gd_system.specs.declared.part.Ends.{Ends}
@@ -32,7 +32,7 @@ use Rattle.gd_machine.proofs.Steps.{schedules_more}
 use Rattle.gd_machine.proofs.Legal.{all_false, not_false}
 use Rattle.gd_machine.proofs.Same.{same_tells}
 use Rattle.gd_machine.proofs.Prefixes.{after_each}
-use Rattle.gd_machine.proofs.Nominated.{prefix_routed}
+use Rattle.gd_machine.proofs.Nominations.{prefix_routed}
 use Rattle.gd_machine.proofs.Counting.{cycle_more, prefix_split, line_count_grows}
 
 -- ---- hours
@@ -109,7 +109,7 @@ module _ (day : Day) where
   pub line_floor : (h : History) (i : ℕ) → i < line_count day h → IsRouted day (key_of day h i) → (line (question day h).asked i).floor ≡ floor_of day h i
   line_floor h i k routed =
       ap (λ (l : Line). l.floor) (question_line h i k)
-      ∙ over_routed day.held.pipeline (ends_of day.held.pipeline (key_of day h i).origin (key_of day h i).dest) routed.0 (class_of day h i) (floor_of day h i) (confirmed_of day h i) routed.1
+      ∙ over_routed day.holdings.pipeline (ends_of day.holdings.pipeline (key_of day h i).origin (key_of day h i).dest) routed.0 (class_of day h i) (floor_of day h i) (confirmed_of day h i) routed.1
 
 -- ---- what is published
 

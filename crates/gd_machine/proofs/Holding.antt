@@ -5,11 +5,11 @@ use Rattle.gd_machine.specs.History.{History, cycle_of}
 use Rattle.gd_machine.specs.Machine.{IsLegal, AllPass}
 use Rattle.gd_machine.specs.Headline.{Headline, DeclaresImpossible, SparesTimely}
 use Rattle.gd_machine.proofs.Legal.{published_is_best}
-use Rattle.gd_machine.proofs.Impossible.{declared_is_impossible, timely_is_not_declared}
-use Rattle.gd_machine.proofs.Closed.{closes_intakes}
-use Rattle.gd_machine.proofs.Counted.{stands_in_one}
+use Rattle.gd_machine.proofs.ImpossibleCycles.{declared_is_impossible, timely_is_not_declared}
+use Rattle.gd_machine.proofs.FrozenIntakes.{closes_intakes}
+use Rattle.gd_machine.proofs.Intakes.{stands_in_one}
 use Rattle.gd_machine.proofs.Sound.{prefix_sound}
-use Rattle.gd_machine.proofs.Lined.{has_lines}
+use Rattle.gd_machine.proofs.QuestionLines.{has_lines}
 
 declares : (day : Day) (h : History) → IsDay day → IsLegal day h → AllPass h → DeclaresImpossible day h
 declares day h is_day legal pass k moment round cut reply at =

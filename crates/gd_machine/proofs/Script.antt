@@ -86,7 +86,7 @@ moments =
     ∷ 1773064800 ∷ []
 
 abbrev pub day_with : List Contract → List (Key × ℕ) → Day
-day_with contracts carry = record { name = codes "DEMO"; held = record { pipeline = base; contracts = contracts }; moments = moments; carry = carry }
+day_with contracts carry = record { name = codes "DEMO"; holdings = record { pipeline = base; contracts = contracts }; moments = moments; carry = carry }
 
 -- ---- certificates
 

@@ -10,7 +10,7 @@ use Rattle.gd_machine.specs.History.{History, cycle_of, scheduled, response_of, 
 use Rattle.gd_machine.specs.Asking.{key_of, nominated_of, former_of, elapsed_of, confirmed_of, floor_of, class_of}
 use Rattle.gd_machine.specs.Known.{IsSound}
 use Rattle.gd_machine.specs.Machine.{IsLegal, AllPass}
-use Rattle.gd_machine.proofs.Nominated.{prefix_routed, prefix_classed, prefix_in_day, prefix_rising}
+use Rattle.gd_machine.proofs.Nominations.{prefix_routed, prefix_classed, prefix_in_day, prefix_rising}
 use Rattle.gd_machine.proofs.Staying.{frozen_past}
 use Rattle.gd_machine.proofs.Flowing.{Flows, prefix_flows, covers}
 use Rattle.std.proofs.lemmas.List.{take_all}

@@ -23,7 +23,7 @@ use Rattle.gd_machine.specs.Machine.{IsAccepted, IsLegal, tests_of}
 use Rattle.gd_machine.proofs.Steps.{stamp_more, frozen_more, response_more, waived_more, elements_more, schedules_more}
 use Rattle.gd_machine.proofs.Legal.{all_false}
 use Rattle.gd_machine.proofs.Times.{stays}
-use Rattle.gd_machine.proofs.Closed.{after_deadline}
+use Rattle.gd_machine.proofs.FrozenIntakes.{after_deadline}
 use Rattle.gd_machine.proofs.Counting.{cycle_more, round_more}
 use Rattle.gd_machine.proofs.Prefixes.{after_each}
 
@@ -90,11 +90,11 @@ module _ (day : Day) (cycle round : ℕ) (elements : List Element) (counting : L
   floor_at line = bounds.line_floor cycle (class_in day (key_at line)) (waived line) (elapsed_at line) (former_at line) (confirmed_at line)
 
   abbrev line_at : ℕ → Line
-  line_at line = line_over day.held.pipeline (ends_of day.held.pipeline (key_at line).origin (key_at line).dest) (class_in day (key_at line)) (floor_at line) (confirmed_at line)
+  line_at line = line_over day.holdings.pipeline (ends_of day.holdings.pipeline (key_at line).origin (key_at line).dest) (class_in day (key_at line)) (floor_at line) (confirmed_at line)
 
   abbrev pub question_from : Posed
   question_from = record {
-    pipeline = day.held.pipeline;
+    pipeline = day.holdings.pipeline;
     asked = record { elements = elements; lines = map line_at (range_with_len 0 (length (lines_of counting))) };
     book = day.name;
     cycle = cycle;
@@ -110,7 +110,7 @@ question_stays day h moment party key amount reply accepted past =
     let p : Event × Reply = (Nominate moment party key amount, reply) in
     let cycle = level (cycle_of h) (cycle_more h p) in
     let round = level (round_of h) (round_more h p) in
-    let elements = elements_more (elements_of day.held.pipeline) h p in
+    let elements = elements_more (elements_of day.holdings.pipeline) h p in
     let counting : counted day (h ++ p ∷ []) ≡ counted day h = ap (λ c. until c (nominations day (h ++ p ∷ []))) cycle ∙ stays day h (cycle_of h) p accepted past in
     let in_effect = schedules_more h p in
     λ i. question_from day (cycle i) (round i) (elements i) (counting i) (in_effect i) (λ line end. response_more line end h p i) (λ line. waived_more line h p i)

@@ -12,7 +12,7 @@ use Rattle.gd_system.specs.Pipeline.{Pipeline, elements_of}
 use Rattle.gd_system.specs.Route.{ends_of}
 use Rattle.gd_system.specs.declared.part.Ends.{Ends}
 use Rattle.gd_system.specs.declared.RouteFault.{RouteFault}
-use Rattle.gd_contracts.specs.Classes.{class_told}
+use Rattle.gd_contracts.specs.Classes.{class_answer}
 use Rattle.gd_lines.specs.Numbering.{nomination}
 use Rattle.gd_question.specs.Posing.{Posed, line_between}
 use Rattle.gd_machine.specs.declared.event.Event.{Event}
@@ -26,7 +26,7 @@ use Rattle.gd_machine.specs.History.{History, cycle_of, round_of, is_waived, res
 
 -- The class of a line under its contract.
 abbrev pub class_in : Day → Key → ℕ
-class_in day key = result_unwrap_or (class_told day.held key.contract key.origin key.dest) 0
+class_in day key = result_unwrap_or (class_answer day.holdings key.contract key.origin key.dest) 0
 
 abbrev pub nomination_of : Day → Event × Reply → Option Nomination
 nomination_of day (Nominate moment party key quantity, Accepted number cycle line) = Some (nomination key cycle (class_in day key) quantity)
@@ -84,15 +84,15 @@ line_over p (Err fault) class floor ceiling = no_line
 -- The line as it is asked: over its route, between its floor and what is confirmed.
 abbrev pub line_of : Day → History → ℕ → Line
 line_of day h line =
-    line_over day.held.pipeline (ends_of day.held.pipeline (key_of day h line).origin (key_of day h line).dest) (class_of day h line) (floor_of day h line) (confirmed_of day h line)
+    line_over day.holdings.pipeline (ends_of day.holdings.pipeline (key_of day h line).origin (key_of day h line).dest) (class_of day h line) (floor_of day h line) (confirmed_of day h line)
 
 -- ---- the question
 
 -- The question of the current cycle and round: the capacities in force, and the lines that are nominated so far.
 abbrev pub question : Day → History → Posed
 question day h = record {
-  pipeline = day.held.pipeline;
-  asked = record { elements = elements_in_force (elements_of day.held.pipeline) h; lines = map (line_of day h) (range_with_len 0 (line_count day h)) };
+  pipeline = day.holdings.pipeline;
+  asked = record { elements = elements_in_force (elements_of day.holdings.pipeline) h; lines = map (line_of day h) (range_with_len 0 (line_count day h)) };
   book = day.name;
   cycle = cycle_of h;
   round = round_of h;

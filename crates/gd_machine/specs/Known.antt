@@ -6,18 +6,18 @@ use Rattle.gd_rules.specs.Lines.{Key}
 use Rattle.gd_rules.specs.Limits.{classes, cycles}
 use Rattle.gd_system.specs.Route.{ends_of}
 use Rattle.gd_system.specs.declared.part.Ends.{Ends}
-use Rattle.gd_contracts.specs.Classes.{class_told}
+use Rattle.gd_contracts.specs.Classes.{class_answer}
 use Rattle.gd_machine.specs.Day.{Day, cycle_at, length_of}
 use Rattle.gd_machine.specs.History.{History, cycle_of, is_frozen, last_stamp, scheduled}
 use Rattle.gd_machine.specs.Asking.{nominations, class_in, elapsed_of, former_of, floor_of, confirmed_of}
 
 -- A route leads from the line's origin to its destination.
 abbrev pub IsRouted : Day → Key → Type 0
-IsRouted day key = (ends : Ends) × (ends_of day.held.pipeline key.origin key.dest ≡ Ok ends)
+IsRouted day key = (ends : Ends) × (ends_of day.holdings.pipeline key.origin key.dest ≡ Ok ends)
 
 -- It has a class under its contract.
 abbrev pub IsClassed : Day → Key → Type 0
-IsClassed day key = (class_told day.held key.contract key.origin key.dest ≡ Ok (class_in day key)) × (1 ≤ class_in day key) × (class_in day key ≤ classes)
+IsClassed day key = (class_answer day.holdings key.contract key.origin key.dest ≡ Ok (class_in day key)) × (1 ≤ class_in day key) × (class_in day key ≤ classes)
 
 -- What has flowed of a line when a cycle takes effect, by the schedules in effect.
 abbrev pub flowed_until : Day → History → ℕ → ℕ → ℕ

@@ -14,7 +14,7 @@ use Rattle.gd_system.specs.Pipeline.{Pipeline, same_name, elements_of, element_n
 use Rattle.gd_system.specs.Route.{ends_of}
 use Rattle.gd_system.specs.declared.part.Ends.{Ends}
 use Rattle.gd_system.specs.declared.RouteFault.{RouteFault}
-use Rattle.gd_contracts.specs.Held.{contract_named}
+use Rattle.gd_contracts.specs.Holdings.{contract_named}
 use Rattle.gd_contracts.specs.declared.contract.Contract.{Contract}
 use Rattle.gd_lines.specs.Numbering.{nomination, numbered}
 use Rattle.gd_question.specs.Posing.{Posed, limit_fault}
@@ -61,7 +61,7 @@ abbrev pub committed_with : Day → History → Key → ℕ → ℕ
 committed_with day h key quantity = committed (nominations day h ++ nomination key 0 0 quantity ∷ []) key.contract
 
 abbrev pub contract_of : Day → Key → Option Contract
-contract_of day key = contract_named day.held.contracts key.contract
+contract_of day key = contract_named day.holdings.contracts key.contract
 
 abbrev pub is_unknown_line : Day → History → ℕ → Bool
 is_unknown_line day h line = nat_le (line_count day h) line
@@ -84,7 +84,7 @@ is_party None party = false
 
 -- The party operates that end of the line.
 abbrev pub is_operator : Day → History → ℕ → End → List ℕ → Bool
-is_operator day h line end party = is_party (operator_of day.held.pipeline (end_name (key_of day h line) end)) party
+is_operator day h line end party = is_party (operator_of day.holdings.pipeline (end_name (key_of day h line) end)) party
 
 -- One entry for each place, each point and each pool.
 abbrev pub is_shaped : Pipeline → Members → Bool
@@ -110,7 +110,7 @@ tests_of day h (Nominate moment party key quantity) =
     (is_none (cycle_at day (stamp_of h (Nominate moment party key quantity))), DayClosed)
     ∷ (is_none (contract_of day key), UnknownContract)
     ∷ (not (is_shipper (contract_of day key) party), NotShipper)
-    ∷ route_tests (ends_of day.held.pipeline key.origin key.dest)
+    ∷ route_tests (ends_of day.holdings.pipeline key.origin key.dest)
     ++ (nat_lt (limit_of (contract_of day key)) (committed_with day h key quantity), OverContract)
     ∷ (is_err (numbered (nominations day h) key), TooManyLines)
     ∷ (is_full h, TooManyEvents) ∷ []
@@ -123,8 +123,8 @@ tests_of day h (Respond moment party line end quantity) =
 tests_of day h (PostCapacity moment element capacity) =
     (is_settled h, AllSettled)
     ∷ (is_frozen h, Frozen)
-    ∷ (nat_le (length (elements_of day.held.pipeline)) element.0, UnknownElement)
-    ∷ (is_some (limit_fault (get_or (elements_of day.held.pipeline) element.0 (Pool 0))), IsPool)
+    ∷ (nat_le (length (elements_of day.holdings.pipeline)) element.0, UnknownElement)
+    ∷ (is_some (limit_fault (get_or (elements_of day.holdings.pipeline) element.0 (Pool 0))), IsPool)
     ∷ (is_full h, TooManyEvents) ∷ []
 tests_of day h (Freeze moment) =
     (is_settled h, AllSettled)
@@ -139,7 +139,7 @@ tests_of day h (Publish moment certificate) =
 tests_of day h (Declare moment round cut) =
     (not (is_frozen h), NotFrozen)
     ∷ (not (round == round_of h), StaleRound (round_of h))
-    ∷ (not (is_shaped day.held.pipeline cut), NoCutProof Shape)
+    ∷ (not (is_shaped day.holdings.pipeline cut), NoCutProof Shape)
     ∷ (not (cuts (question day h) cut), NoCutProof NotCut)
     ∷ (is_full h, TooManyEvents) ∷ []
 tests_of day h (Waive moment line) =

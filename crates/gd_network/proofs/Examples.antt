@@ -6,7 +6,7 @@ use Rattle.gd_rules.specs.Question.Element.{Segment, Receipt, Delivery}
 use Rattle.gd_rules.specs.Cut.{excess}
 use Rattle.gd_question.specs.Nodes.{AllBring}
 use Rattle.gd_network.specs.Flow.{net, arc_excess}
-use Rattle.gd_network.specs.Beginning.{brought}
+use Rattle.gd_network.specs.Beginning.{clamped_schedule}
 use Rattle.gd_network.specs.Links.{links_of}
 use Rattle.gd_network.proofs.Networks.{network_of, flow_of, schedule_of}
 
@@ -64,9 +64,9 @@ unfolding one
 one-balances = refl
 
 -- too short: the missing entry is 0, and comes up to the floor; too long and too large: the third entry is dropped, the second comes down to the ceiling
-one-brought : (brought one.lines (63 ∷ []) ≡ 63 ∷ 33 ∷ []) × (brought one.lines (81 ∷ 52 ∷ 7 ∷ []) ≡ 80 ∷ 50 ∷ []) × (brought one.lines [] ≡ 0 ∷ 33 ∷ [])
+one-clamped_schedule : (clamped_schedule one.lines (63 ∷ []) ≡ 63 ∷ 33 ∷ []) × (clamped_schedule one.lines (81 ∷ 52 ∷ 7 ∷ []) ≡ 80 ∷ 50 ∷ []) × (clamped_schedule one.lines [] ≡ 0 ∷ 33 ∷ [])
 unfolding one
-one-brought = (refl, refl, refl)
+one-clamped_schedule = (refl, refl, refl)
 
 -- the segment and the receipt point's arc at place 0, and the delivery point's arc with all tenths at the delivery point
 one-links : (links_of (network_of one) 0 ≡ 0 ∷ 1 ∷ []) × (links_of (network_of one) 3 ≡ 2 ∷ 3 ∷ 4 ∷ 5 ∷ 6 ∷ 7 ∷ 8 ∷ 9 ∷ 10 ∷ 11 ∷ 12 ∷ 13 ∷ 14 ∷ 15 ∷ 16 ∷ 17 ∷ 18 ∷ 19 ∷ 20 ∷ 21 ∷ 22 ∷ [])

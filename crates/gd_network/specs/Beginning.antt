@@ -19,10 +19,10 @@ clamped l n = min (max n l.floor) l.ceiling
 
 -- A schedule brought within bounds: an entry for each line, a missing one 0, each between floor and ceiling. What is
 -- past the lines is dropped.
-abbrev pub brought : List Line → List ℕ → List ℕ
-brought [] schedule = []
-brought (l ∷ lines) [] = clamped l 0 ∷ brought lines []
-brought (l ∷ lines) (n ∷ schedule) = clamped l n ∷ brought lines schedule
+abbrev pub clamped_schedule : List Line → List ℕ → List ℕ
+clamped_schedule [] schedule = []
+clamped_schedule (l ∷ lines) [] = clamped l 0 ∷ clamped_schedule lines []
+clamped_schedule (l ∷ lines) (n ∷ schedule) = clamped l n ∷ clamped_schedule lines schedule
 
 -- The arcs join the nodes of a question, one more than its elements; no bound is below 0, none above the
 -- greatest quantity, and no lower one above the upper one.

@@ -7,7 +7,7 @@ ghost use Rattle.gd_rules.specs.Schedule.{quantity};
 ghost use Rattle.gd_scale.specs.Sum.{sum_int};
 ghost use Rattle.gd_network.specs.Arcs.{arc_count, tenth_arc, IsNetwork};
 ghost use Rattle.gd_network.specs.Flow.{flow_at, part_of, IsWithin, IsScheduleOf};
-ghost use Rattle.gd_network.specs.Beginning.{clamped, brought};
+ghost use Rattle.gd_network.specs.Beginning.{clamped, clamped_schedule};
 ghost use Rattle.gd_network.specs.Entries.{FirstFlows};
 
 use crate::Arc;
@@ -195,7 +195,7 @@ pub(crate) fn bring(
     question: &Question,
     schedule: &Schedule,
 ) -> Result<Schedule, AllocError>
-    ensures { IfOk result (λ within. within ≡ brought question.now.asked.lines schedule.now) }
+    ensures { IfOk result (λ within. within ≡ clamped_schedule question.now.asked.lines schedule.now) }
 {
     let mut quantities = Vec::new(alloc);
     for line in 0..question.line_count() {

@@ -8,7 +8,7 @@ ghost use Rattle.gd_network.specs.Arcs.{IsNetwork, arc_at, tenth_arc};
 ghost use Rattle.gd_question.specs.Nodes.{AllBring, start, stop};
 ghost use Rattle.gd_network.specs.Flow.{flow_at, IsCirculation, IsWithin, IsFlowOf, IsScheduleOf};
 ghost use Rattle.gd_network.specs.Links.{links_of};
-ghost use Rattle.gd_network.specs.Beginning.{brought, AreSound, IsFirst};
+ghost use Rattle.gd_network.specs.Beginning.{clamped_schedule, AreSound, IsFirst};
 
 use crate::arcs::arcs_of;
 use crate::flow::{bring, flow_of, schedule_of};
@@ -62,7 +62,7 @@ impl<'q> Network<'q> {
         ensures arcs { IfOk result (λ network. IsNetwork question.now.asked network.arcs) }
         ensures first { IfOk result
             (λ network. IsFlowOf question.now.asked
-            (brought question.now.asked.lines []) network.first) }
+            (clamped_schedule question.now.asked.lines []) network.first) }
     {
         let none = Schedule::of(Vec::new(alloc));
         Network::at(alloc, question, &none)
@@ -80,7 +80,7 @@ impl<'q> Network<'q> {
         ensures arcs { IfOk result (λ network. IsNetwork question.now.asked network.arcs) }
         ensures first { IfOk result
             (λ network. IsFlowOf question.now.asked
-            (brought question.now.asked.lines schedule.now) network.first) }
+            (clamped_schedule question.now.asked.lines schedule.now) network.first) }
     {
         question.known();
         let begun = bring(alloc, question, schedule)?;

@@ -1,2 +1,2 @@
 mod Numbering
-mod Fitted
+mod Histories

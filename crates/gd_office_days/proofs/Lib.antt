@@ -1,3 +1,3 @@
 pub mod Cutting
-pub mod Named
+pub mod BookNames
 pub mod OfficeBlocks

@@ -9,22 +9,22 @@ use Rattle.gd_text_part.specs.declared.fault.TextFault.{TextFault}
 use Rattle.gd_text_part.specs.declared.fault.TextFault.TheVariants as fault
 use Rattle.gd_text_part.specs.declared.row.Row.{Row}
 use Rattle.gd_text_part.specs.declared.row.Row.TheVariants as row
-use Rattle.gd_text.specs.Building.{told}
+use Rattle.gd_text.specs.Building.{result_as}
 use Rattle.gd_day.specs.Opening.{Opened, opened_of}
 use Rattle.gd_day.specs.declared.text.DayText.{DayText}
 use Rattle.gd_office_days.specs.Blocks.{Block, blocks_of}
 
 -- What a book is opened with, as values.
 abbrev pub opened : DayText → Opened
-opened d = record { date = d.date; zone = d.zone; book = d.book; held = d.contracts; carry = d.carry.items }
+opened d = record { date = d.date; zone = d.zone; book = d.book; holdings = d.contracts; carry = d.carry.items }
 
 -- A fault of a block behind so many rows, in a text that ends with this one: at its row of the text, and what is not there
 -- at one row past the last.
-abbrev pub told_in : ℕ → ℕ → TextFault → TextFault
-told_in last before (fault.Row n cause.Missing) = fault.Row (last + 1) cause.Missing
-told_in last before (fault.Row n (cause.Build build.NoSegment)) = fault.Row (last + 1) (cause.Build build.NoSegment)
-told_in last before (fault.Row n c) = fault.Row (before + n) c
-told_in last before f = f
+abbrev pub block_fault : ℕ → ℕ → TextFault → TextFault
+block_fault last before (fault.Row n cause.Missing) = fault.Row (last + 1) cause.Missing
+block_fault last before (fault.Row n (cause.Build build.NoSegment)) = fault.Row (last + 1) (cause.Build build.NoSegment)
+block_fault last before (fault.Row n c) = fault.Row (before + n) c
+block_fault last before f = f
 
 -- The number of the first `day` row, where these rows begin with this one, and the book that it names.
 abbrev pub head_at : ℕ → List Row → Option (ℕ × List ℕ)
@@ -54,7 +54,7 @@ opened_beside days rows = opened_under days rows (head_at 1 rows)
 
 -- The same of a block in a text of so many rows.
 abbrev pub opened_in : ℕ → List Opened → Block → Result Opened TextFault
-opened_in last days b = told (told_in last b.before) (opened_beside days b.rows)
+opened_in last days b = result_as (block_fault last b.before) (opened_beside days b.rows)
 
 -- The gas days of blocks behind these, or the first refusal.
 abbrev pub opened_after : ℕ → List Opened → List Block → Result (List Opened) TextFault

@@ -10,7 +10,7 @@ ghost use Rattle.gd_office_days.specs.Blocks.{Block};
 ghost use Rattle.gd_office_days.specs.Days as spec;
 
 use crate::begins::{begins_next, head_at, headed_by};
-use crate::told::told_in;
+use crate::fault::block_fault;
 use gd_day::{DayText, day_text_of};
 use gd_text_part::{Cause, Row, TextFault};
 use gd_units::Name;
@@ -76,7 +76,7 @@ fn day_at(
 {
     match own_day(alloc, days, &rows[start..end]) {
         Ok(day) => Ok(day),
-        Err(fault) => Err(told_in(rows.len() as u64, start as u64, fault)),
+        Err(fault) => Err(block_fault(rows.len() as u64, start as u64, fault)),
     }
 }
 

@@ -3,6 +3,6 @@
 
 mod begins;
 mod days;
-mod told;
+mod fault;
 
 pub use days::days_of;

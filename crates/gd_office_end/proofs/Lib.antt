@@ -1,2 +1,2 @@
 pub mod Picking
-pub mod Holding
+pub mod Shares

@@ -1,3 +1,3 @@
 pub mod Picking
-pub mod Holding
+pub mod Shares
 pub mod Ends

@@ -20,4 +20,4 @@ Grew {X} old new more =
 
 -- No slot has an item.
 abbrev pub AreEmpty : {X : Type 0} → List (Vec X) → Type 0
-AreEmpty {X} held = (k : ℕ) (d : Vec X) → k < length held → (get_or held k d).items ≡ []
+AreEmpty {X} holding = (k : ℕ) (d : Vec X) → k < length holding → (get_or holding k d).items ≡ []

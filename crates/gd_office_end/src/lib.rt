@@ -4,8 +4,8 @@
 #![tactic(auto)]
 
 mod end;
-mod held;
+mod holding;
 mod slot;
 
 pub use end::End;
-pub use held::{Held, end_slots};
+pub use holding::{Holding, end_slots};

@@ -10,53 +10,57 @@ use std::mem;
 
 /// An empty list for each slot.
 pub(crate) fn lists_for<T: Drop>(alloc: Global, slots: usize) -> Result<Vec<Vec<T>>, AllocError>
-    ensures len { IfOk result (λ held. len_of held.items ≡ slots) }
-    ensures empty { IfOk result (λ held. spec.AreEmpty held.items) }
+    ensures len { IfOk result (λ holding. len_of holding.items ≡ slots) }
+    ensures empty { IfOk result (λ holding. spec.AreEmpty holding.items) }
 {
-    let mut held = Vec::with_capacity(alloc, slots)?;
+    let mut holding = Vec::with_capacity(alloc, slots)?;
     for at in 0..slots {
         let _ = at;
-        held.push(Vec::new(alloc))?;
+        holding.push(Vec::new(alloc))?;
     }
-    Ok(held)
+    Ok(holding)
 }
 
 /// Gives the slot at this place one item more. A slot that isn't there gets nothing.
-pub(crate) fn give<T: Drop>(held: &mut Vec<Vec<T>>, slot: usize, item: T) -> Result<(), AllocError>
+pub(crate) fn give<T: Drop>(
+    holding: &mut Vec<Vec<T>>,
+    slot: usize,
+    item: T,
+) -> Result<(), AllocError>
     ensures { OnOk result
-        (spec.Grew held.old.items held.new.items (λ k. spec.if_slot slot k item)) }
+        (spec.Grew holding.old.items holding.new.items (λ k. spec.if_slot slot k item)) }
 {
-    if slot < held.len() {
-        held[slot].push(item)?;
+    if slot < holding.len() {
+        holding[slot].push(item)?;
     }
     Ok(())
 }
 
 /// Gives each slot the items of its sessions, in order. There is an item for each session.
 pub(crate) fn distribute<T: Drop>(
-    held: &mut Vec<Vec<T>>,
+    holding: &mut Vec<Vec<T>>,
     rows: &[SessionRows],
     items: Vec<T>,
 ) -> Result<(), AllocError>
     requires { len_of items.items ≡ len_of rows.now }
     ensures { OnOk result
-        (spec.Grew held.old.items held.new.items (λ k. spec.pick k rows.now items.items)) }
+        (spec.Grew holding.old.items holding.new.items (λ k. spec.pick k rows.now items.items)) }
 {
     let mut at = 0;
     for item in items {
-        give(held, rows[at].slot, item)?;
+        give(holding, rows[at].slot, item)?;
         at += 1;
     }
     Ok(())
 }
 
 /// Takes what a slot was given.
-pub(crate) fn take_at<T: Drop>(alloc: Global, held: &mut Vec<Vec<T>>, at: usize) -> Vec<T>
-    requires { at < len_of held.old.items }
-    ensures taken { (d : AVec T) → result ≡ get_or held.old.items at d }
+pub(crate) fn take_at<T: Drop>(alloc: Global, holding: &mut Vec<Vec<T>>, at: usize) -> Vec<T>
+    requires { at < len_of holding.old.items }
+    ensures taken { (d : AVec T) → result ≡ get_or holding.old.items at d }
     ensures others { (k : ℕ) (d : AVec T) → k ≢ at
-        → get_or held.new.items k d ≡ get_or held.old.items k d }
-    ensures len { len_of held.new.items ≡ len_of held.old.items }
+        → get_or holding.new.items k d ≡ get_or holding.old.items k d }
+    ensures len { len_of holding.new.items ≡ len_of holding.old.items }
 {
-    mem::replace(&mut held[at], Vec::new(alloc))
+    mem::replace(&mut holding[at], Vec::new(alloc))
 }

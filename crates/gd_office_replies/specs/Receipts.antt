@@ -24,13 +24,13 @@ call_of (event.Skip moment) = call.Skip
 
 -- What a session is told of an event: its number with a nomination's cycle and line, its number alone, or the length of the
 -- history with the refusal.
-abbrev pub told_row : ℕ → Event → Told → Reply
-told_row session e (told.Accepted number (book.Accepted n cycle line)) = reply.ReceiptAccepted session number cycle (line + 1)
-told_row session e (told.Accepted number r) = reply.ReceiptDone session number
-told_row session e (told.Refused len refusal) = reply.ReceiptRefused session len (call_of e) refusal
+abbrev pub step_row : ℕ → Event → Told → Reply
+step_row session e (told.Accepted number (book.Accepted n cycle line)) = reply.ReceiptAccepted session number cycle (line + 1)
+step_row session e (told.Accepted number r) = reply.ReceiptDone session number
+step_row session e (told.Refused len refusal) = reply.ReceiptRefused session len (call_of e) refusal
 
 abbrev pub receipt_row : ℕ → Receipt → Reply
-receipt_row session receipt = told_row session receipt.event receipt.told
+receipt_row session receipt = step_row session receipt.event receipt.told
 
 -- The receipts of one session in their order.
 abbrev pub session_rows : ℕ → List Receipt → List Reply

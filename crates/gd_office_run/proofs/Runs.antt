@@ -10,7 +10,7 @@ use Rattle.gd_machine.specs.Day.{Day}
 use Rattle.gd_office_part.specs.declared.kept.Receipt.{Receipt}
 use Rattle.gd_office_part.specs.declared.threads.Phase.{Phase}
 use Rattle.gd_office_run.specs.Runs.{Outcome, Gives, HasGiven, AreNumbered, IsRun, outcome_rows, phase_rows, run_rows}
-use Rattle.gd_office_end.specs.declared.held.Held.{Held}
+use Rattle.gd_office_end.specs.declared.holding.Holding.{Holding}
 use Rattle.gd_office_run.specs.Shares.{HoldsRun}
 use Rattle.gd_office_run.specs.RunRows.{EndsEarly}
 use Rattle.gd_replies.specs.declared.reply.Reply.{Reply}
@@ -59,9 +59,9 @@ range_more a (suc n) =
     ∙ ap (λ (l : List ℕ). a ∷ l) (range_more (a + 1) n ∙ ap (λ (m : ℕ). range_with_len (a + 1) n ++ m ∷ []) same)
 
 -- a run that is told and held, without its ends
-pub early : {J : Type 0} (known : List Day) (slots : ℕ) (phases : List Phase) (rows after : List Reply) (held : Held J) → HoldsRun known slots phases rows held → after ≡ rows
+pub early : {J : Type 0} (known : List Day) (slots : ℕ) (phases : List Phase) (rows after : List Reply) (holding : Holding J) → HoldsRun known slots phases rows holding → after ≡ rows
     → EndsEarly known slots phases after
-early known slots phases rows after held holds same =
+early known slots phases rows after holding holds same =
     (length phases, holds.0, subst (λ (ps : List Phase). IsRun known slots ps holds.0) (sym (take_all (length phases) phases (omega arith))) holds.1, same ∙ holds.2)
 
 pub on_err : {T E : Type 0} (r : Result T E) (P : Type 0) → P → OnErr r P

@@ -6,9 +6,9 @@ use Rattle.gd_office_part.specs.declared.kept.Receipt.{Receipt}
 use Rattle.gd_office_part.specs.declared.numbers.Numbers.{Numbers}
 use Rattle.gd_office_part.specs.declared.threads.Phase.{Phase}
 use Rattle.gd_office_part.specs.declared.threads.SessionRows.{SessionRows}
-use Rattle.gd_office_end.specs.declared.held.Held.{Held}
-use Rattle.gd_office_end.specs.Holding.{Share, nothing, plus, share_at, of_sessions, of_desk, IsOf, Gains}
-use Rattle.gd_office_end.proofs.Holding.{share_is}
+use Rattle.gd_office_end.specs.declared.holding.Holding.{Holding}
+use Rattle.gd_office_end.specs.Shares.{Share, nothing, plus, share_at, of_sessions, of_desk, IsOf, Gains}
+use Rattle.gd_office_end.proofs.Shares.{share_is}
 use Rattle.gd_office_run.specs.Runs.{Outcome}
 use Rattle.gd_office_run.specs.Shares.{of_desks, share_in, share_of, Holds}
 
@@ -47,9 +47,9 @@ share_more (x ∷ os) o k =
     let mine = share_in x.first x.phase x.lists x.desks k in
     ap (λ (s : Share). plus mine s) (share_more os o k) ∙ sym (plus_assoc mine (share_of os k) (share_in o.first o.phase o.lists o.desks k))
 
-pub holds_more : {J : Type 0} (slots : ℕ) (held new : Held J) (os : List Outcome) (first : ℕ) (p : Phase) (lists : List (List Receipt)) (desks : List Desk)
-    → Holds slots held os → IsOf slots new → Gains slots held new (share_in first p lists desks)
+pub holds_more : {J : Type 0} (slots : ℕ) (holding new : Holding J) (os : List Outcome) (first : ℕ) (p : Phase) (lists : List (List Receipt)) (desks : List Desk)
+    → Holds slots holding os → IsOf slots new → Gains slots holding new (share_in first p lists desks)
     → Holds slots new (os ++ record { first = first; phase = p; lists = lists; desks = desks } ∷ [])
-holds_more slots held new os first p lists desks holds of gains =
+holds_more slots holding new os first p lists desks holds of gains =
     let o : Outcome = record { first = first; phase = p; lists = lists; desks = desks } in
     (of, λ k below. gains k below ∙ ap (λ (s : Share). plus s (share_in first p lists desks k)) (holds.1 k below) ∙ sym (share_more os o k))

@@ -5,8 +5,8 @@ use Rattle.gd_desk.specs.declared.desk.Desk.{Desk}
 use Rattle.gd_machine.specs.Day.{Day}
 use Rattle.gd_office_part.specs.declared.kept.Receipt.{Receipt}
 use Rattle.gd_office_part.specs.declared.threads.Phase.{Phase}
-use Rattle.gd_office_end.specs.declared.held.Held.{Held}
-use Rattle.gd_office_end.specs.Holding.{Share, nothing, plus, share_at, of_sessions, of_desk, IsOf, Gains}
+use Rattle.gd_office_end.specs.declared.holding.Holding.{Holding}
+use Rattle.gd_office_end.specs.Shares.{Share, nothing, plus, share_at, of_sessions, of_desk, IsOf, Gains}
 use Rattle.gd_office_run.specs.Runs.{Outcome, Gives, IsRun, counts_of, phase_rows, run_rows}
 use Rattle.gd_replies.specs.declared.reply.Reply.{Reply}
 
@@ -26,15 +26,15 @@ share_of [] k = nothing
 share_of (o ∷ os) k = plus (share_in o.first o.phase o.lists o.desks k) (share_of os k)
 
 -- All that a run gave is held, by slot.
-abbrev pub Holds : {J : Type 0} → ℕ → Held J → List Outcome → Type 0
-Holds slots held os = IsOf slots held × ((k : ℕ) → k < slots → share_at held k ≡ share_of os k)
+abbrev pub Holds : {J : Type 0} → ℕ → Holding J → List Outcome → Type 0
+Holds slots holding os = IsOf slots holding × ((k : ℕ) → k < slots → share_at holding k ≡ share_of os k)
 
 -- The rows tell a run of these phases, and all that it gave is held.
-abbrev pub HoldsRun : {J : Type 0} → List Day → ℕ → List Phase → List Reply → Held J → Type 0
-HoldsRun days slots phases rows held = (os : List Outcome) × IsRun days slots phases os × (rows ≡ run_rows os) × Holds slots held os
+abbrev pub HoldsRun : {J : Type 0} → List Day → ℕ → List Phase → List Reply → Holding J → Type 0
+HoldsRun days slots phases rows holding = (os : List Outcome) × IsRun days slots phases os × (rows ≡ run_rows os) × Holds slots holding os
 
 -- What a phase gave is told behind the rows, and held.
-abbrev pub Adds : {J : Type 0} → List Day → ℕ → ℕ → Phase → List Reply → Held J → List Reply → Held J → Type 0
-Adds days slots first p rows held after new =
+abbrev pub Adds : {J : Type 0} → List Day → ℕ → ℕ → Phase → List Reply → Holding J → List Reply → Holding J → Type 0
+Adds days slots first p rows holding after new =
     (lists : List (List Receipt)) × (desks : List Desk) × Gives days slots p lists desks
-    × (after ≡ rows ++ phase_rows first lists desks) × IsOf slots new × Gains slots held new (share_in first p lists desks)
+    × (after ≡ rows ++ phase_rows first lists desks) × IsOf slots new × Gains slots holding new (share_in first p lists desks)

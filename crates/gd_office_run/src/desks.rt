@@ -4,14 +4,14 @@ ghost use Rattle.std.specs.Prelude.{List, ◌≡◌, ◌+◌, ◌≤◌, ◌^◌
 ghost use Rattle.std.specs.List.{All};
 ghost use Rattle.gd_desk.specs.Desks.{AreTried, AreDesks};
 ghost use Rattle.gd_machine.specs.Day.{Day};
-ghost use Rattle.gd_office_end.specs.Holding.{IsOf, Gains};
+ghost use Rattle.gd_office_end.specs.Shares.{IsOf, Gains};
 ghost use Rattle.gd_office_replies.specs.Desks.{IsEndShaped};
 ghost use Rattle.gd_office_run.specs.Runs as spec;
 ghost use Rattle.gd_office_run.specs.Shares as shares;
 
 use crate::fault::RunFault;
 use gd_desk::{Desk, DeskFault};
-use gd_office_end::Held;
+use gd_office_end::Holding;
 use gd_office_part::Days;
 use gd_office_replies::push_desk;
 use gd_replies::Reply;
@@ -71,16 +71,16 @@ pub(crate) fn push_desks(
 
 /// Holds the receipts of the desks, one for each slot, in order.
 pub(crate) fn hold_desks<J: Days>(
-    held: &mut Held<'_, J>,
+    holding: &mut Holding<'_, J>,
     desks: Vec<Desk>,
 ) -> Result<(), AllocError>
-    ensures { (slots : ℕ) → IsOf slots held.old → OnOk result
-        (IsOf slots held.new × Gains slots held.old held.new (shares.of_desks 0 desks.items)) }
+    ensures { (slots : ℕ) → IsOf slots holding.old → OnOk result
+        (IsOf slots holding.new × Gains slots holding.old holding.new (shares.of_desks 0 desks.items)) }
 {
     let mut at = 0;
     for desk in desks {
         let Desk { froze, closed, .. } = desk;
-        held.take_desk(at, froze, closed)?;
+        holding.take_desk(at, froze, closed)?;
         at += 1;
     }
     Ok(())

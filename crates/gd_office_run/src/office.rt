@@ -2,7 +2,7 @@
 
 ghost use Rattle.std.specs.Prelude.{◌≡◌, ◌+◌, ◌≤◌, ◌^◌, ◌++◌, ℕ, [], true, IfOk, IfSome, OnOk, OnErr, vec_len, length as len_of};
 ghost use Rattle.std.specs.List.{list_all};
-ghost use Rattle.gd_office_end.specs.Holding.{IsOf};
+ghost use Rattle.gd_office_end.specs.Shares.{IsOf};
 ghost use Rattle.gd_office_run.specs.Runs as spec;
 ghost use Rattle.gd_office_run.specs.Shares as shares;
 ghost use Rattle.gd_office_run.specs.RunRows as spec_told;
@@ -11,7 +11,7 @@ use crate::fault::RunFault;
 use crate::phase::{hold, rows_of, run_phase};
 use gd_desk::Gate;
 use gd_office::Office;
-use gd_office_end::{End, Held, end_slots};
+use gd_office_end::{End, Holding, end_slots};
 use gd_office_part::{Days, Phase};
 use gd_replies::Reply;
 use std::alloc::{AllocError, Global};
@@ -33,20 +33,20 @@ fn take_phase<'o, R: Threads + Wait + Clock + Sync, G: Gate + Sync, J: Days + Se
     alloc: Global,
     office: &'o Office<J>,
     gate: &G,
-    held: &mut Held<'o, J>,
+    holding: &mut Holding<'o, J>,
     first: u64,
     phase: &Phase,
     rows: &mut Vec<Reply>,
 ) -> Result<(), RunFault>
     requires first { first ≤ 2 ^ 62 }
-    requires held { IsOf (len_of office.now.slots.items) held.old }
+    requires holding { IsOf (len_of office.now.slots.items) holding.old }
     ensures ok { OnOk result (shares.Adds J.days (len_of office.now.slots.items) first phase.now
-        rows.old.items held.old rows.new.items held.new) }
+        rows.old.items holding.old rows.new.items holding.new) }
     ensures err { OnErr result (rows.new.items ≡ rows.old.items) }
 {
     let given = run_phase(rt, alloc, office, phase, gate)?;
     let mut told = rows_of(alloc, first, &given)?;
-    hold(alloc, held, first, phase, given)?;
+    hold(alloc, holding, first, phase, given)?;
     rows.append(&mut told)?;
     Ok(())
 }
@@ -58,13 +58,13 @@ fn run_phases<'o, R: Threads + Wait + Clock + Sync, G: Gate + Sync, J: Days + Se
     office: &'o Office<J>,
     phases: &[Phase],
     gate: &G,
-    held: &mut Held<'o, J>,
+    holding: &mut Holding<'o, J>,
     rows: &mut Vec<Reply>,
 ) -> Result<(), RunFault>
-    requires held { shares.Holds (len_of office.now.slots.items) held.old [] }
+    requires holding { shares.Holds (len_of office.now.slots.items) holding.old [] }
     requires empty { rows.old.items ≡ [] }
     ensures ok { OnOk result (shares.HoldsRun J.days (len_of office.now.slots.items) phases.now
-        rows.new.items held.new) }
+        rows.new.items holding.new) }
     ensures err { OnErr result (spec_told.EndsEarly J.days (len_of office.now.slots.items) phases.now
         rows.new.items) }
 {
@@ -73,7 +73,7 @@ fn run_phases<'o, R: Threads + Wait + Clock + Sync, G: Gate + Sync, J: Days + Se
         let Some(next) = next_number(first, phase) else {
             return Err(RunFault::TooMany);
         };
-        take_phase(rt, alloc, office, gate, held, first, phase, rows)?;
+        take_phase(rt, alloc, office, gate, holding, first, phase, rows)?;
         first = next;
     }
     Ok(())
@@ -128,17 +128,17 @@ fn end_run<'o, R: Wait, J: Days>(
     alloc: Global,
     office: &'o Office<J>,
     phases: &[Phase],
-    held: Held<'o, J>,
+    holding: Holding<'o, J>,
     rows: &mut Vec<Reply>,
 ) -> Result<bool, RunFault>
-    requires { shares.HoldsRun J.days (len_of office.now.slots.items) phases.now rows.old.items held }
+    requires { shares.HoldsRun J.days (len_of office.now.slots.items) phases.now rows.old.items holding }
     ensures ok { IfOk result (spec_told.TellsRun J.days (len_of office.now.slots.items) phases.now
         rows.new.items) }
     ensures err { OnErr result (spec_told.EndsEarly J.days (len_of office.now.slots.items) phases.now
         rows.new.items) }
 {
     let _ = phases;
-    let ends = end_slots(rt, alloc, office, held, office.slots().len())?;
+    let ends = end_slots(rt, alloc, office, holding, office.slots().len())?;
     let mut last = ends_replies(alloc, ends.as_slice())?;
     rows.append(&mut last)?;
     Ok(all_reconciled(ends.as_slice()))
@@ -167,7 +167,7 @@ pub fn run<R: Threads + Wait + Clock + Sync, G: Gate + Sync, J: Days + Send + Sy
     ensures err { OnErr result (spec_told.EndsEarly J.days (len_of office.now.slots.items) phases.now
         told.new.items) }
 {
-    let mut held = Held::new(alloc, office.slots().len())?;
-    run_phases(rt, alloc, office, phases, gate, &mut held, told)?;
-    end_run(rt, alloc, office, phases, held, told)
+    let mut holding = Holding::new(alloc, office.slots().len())?;
+    run_phases(rt, alloc, office, phases, gate, &mut holding, told)?;
+    end_run(rt, alloc, office, phases, holding, told)
 }

@@ -6,14 +6,14 @@ ghost use Rattle.gd_office_part.specs.Sending.{lists_of};
 ghost use Rattle.gd_office_replies.specs.Desks.{IsEndShaped};
 ghost use Rattle.gd_office_run.specs.Runs as spec;
 ghost use Rattle.gd_office_run.specs.Shares as shares;
-ghost use Rattle.gd_office_end.specs.Holding.{IsOf, Gains};
+ghost use Rattle.gd_office_end.specs.Shares.{IsOf, Gains};
 
 use crate::desks::{desks_of, hold_desks, push_desks};
 use crate::fault::RunFault;
 use crate::opened::open_all;
 use gd_desk::{Desk, Gate, desk_round};
 use gd_office::Office;
-use gd_office_end::Held;
+use gd_office_end::Holding;
 use gd_office_part::{Days, Phase, Receipt, Session, send};
 use gd_office_replies::push_sessions;
 use gd_replies::Reply;
@@ -93,7 +93,7 @@ fn numbers_from(alloc: Global, first: u64, count: usize) -> Result<Vec<u64>, All
 /// Holds what a phase gave, whose first session has this number.
 pub(crate) fn hold<'o, J: Days>(
     alloc: Global,
-    held: &mut Held<'o, J>,
+    holding: &mut Holding<'o, J>,
     first: u64,
     phase: &Phase,
     given: Given<'o, J>,
@@ -102,8 +102,8 @@ pub(crate) fn hold<'o, J: Days>(
     requires counted { map (λ s. s.numbers) given.sessions.items
         ≡ spec.counts_of (lists_of given.lists.items) }
     requires each { vec_len given.lists ≡ vec_len phase.now.sessions }
-    ensures { (slots : ℕ) → IsOf slots held.old → OnOk result (IsOf slots held.new
-        × Gains slots held.old held.new
+    ensures { (slots : ℕ) → IsOf slots holding.old → OnOk result (IsOf slots holding.new
+        × Gains slots holding.old holding.new
         (shares.share_in first phase.now (lists_of given.entry.lists.items)
         given.entry.desks.items)) }
 {
@@ -113,7 +113,7 @@ pub(crate) fn hold<'o, J: Days>(
         desks,
     } = given;
     let numbers = numbers_from(alloc, first, lists.len())?;
-    held.take_sessions(phase.sessions.as_slice(), sessions, lists, numbers)?;
-    hold_desks(held, desks)?;
+    holding.take_sessions(phase.sessions.as_slice(), sessions, lists, numbers)?;
+    hold_desks(holding, desks)?;
     Ok(())
 }

@@ -1,6 +1,6 @@
 pub mod InForceLemmas
 pub mod Limits
 pub mod Sound
-pub mod Asked
+pub mod QuestionInside
 pub mod Same
-pub mod Placed
+pub mod ElementPlaces

@@ -5,7 +5,7 @@ use Rattle.gd_rules.specs.Question as rules
 use Rattle.gd_rules.specs.Question.Element.{Pool}
 use Rattle.gd_rules.specs.Tree.{IsLine, HasLines, IsRoute, place_of}
 use Rattle.gd_tree.specs.Grown.{route_of}
-use Rattle.gd_tree.proofs.Along.{routes, route_few}
+use Rattle.gd_tree.proofs.Directions.{routes, route_few}
 use Rattle.gd_system.specs.Pipeline.{Pipeline, elements_of}
 use Rattle.gd_system.specs.Known.{IsSystem}
 use Rattle.gd_question.specs.Known.{IsKnown}

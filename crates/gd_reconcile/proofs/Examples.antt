@@ -10,7 +10,7 @@ use Rattle.gd_machine.specs.Machine.{MayRefuse}
 use Rattle.gd_office_part.specs.declared.kept.Receipt.{Receipt}
 use Rattle.gd_office_part.specs.declared.kept.Told.{Told}
 use Rattle.gd_office_part.specs.declared.kept.Told.TheVariants.{Accepted, Refused}
-use Rattle.gd_reconcile.specs.Fitting.{FitsAlone, InOrder, Fit, receipt_at, number_told}
+use Rattle.gd_reconcile.specs.Fitting.{FitsAlone, InOrder, Fit, receipt_at, event_number}
 use Rattle.gd_reconcile.proofs.Walks.{told_number}
 
 -- what holds of each receipt, and of each two in their order
@@ -36,7 +36,7 @@ ordered_at (x ∷ list) all (suc j) zero r s lt p q = absurd (omega arith)
 ordered_at (x ∷ list) all (suc j) (suc k) r s lt p q = ordered_at list all.1 j k r s (omega arith) p q
 
 -- two receipts in order don't tell one number
-not_twice : (t u : Told) (n : ℕ) → InOrder t u → number_told t ≡ Some n → number_told u ≡ Some n → ⊥
+not_twice : (t u : Told) (n : ℕ) → InOrder t u → event_number t ≡ Some n → event_number u ≡ Some n → ⊥
 not_twice (Accepted m reply) (Accepted k other) n lt p q =
     let first = same_Some m n p in let second = same_Some k n q in omega arith
 not_twice (Accepted m reply) (Refused k refusal) n lt p q = absurd (cc)
@@ -58,7 +58,7 @@ fits_in_one day h list all ordered = record {
       let x0 = x.0 in
       let y0 = y.0 in
       let lt : j < k = elim before [ inl less ↦ absurd (omega arith) | inr same ↦ same.1 ] in
-      not_twice r.0.told s.0.told n (ordered_at list ordered j k r.0 s.0 lt x.1 y.1) (ap number_told r.2.1) (ap number_told s.2.1);
+      not_twice r.0.told s.0.told n (ordered_at list ordered j k r.0 s.0 lt x.1 y.1) (ap event_number r.2.1) (ap event_number s.2.1);
   order = λ a j k r s lt b p q. ordered_at list ordered j k r s lt (in_one list a j r p).1 (in_one list a k s q).1;
 }
 

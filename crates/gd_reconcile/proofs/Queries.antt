@@ -13,7 +13,7 @@ use Rattle.gd_office_part.specs.declared.kept.Told.{Told}
 use Rattle.gd_office_part.specs.declared.kept.Told.TheVariants.{Accepted, Refused}
 use Rattle.gd_reconcile.specs.declared.mismatch.Mismatch.{Mismatch}
 use Rattle.gd_reconcile.specs.declared.refusals.Query.{Query}
-use Rattle.gd_reconcile.specs.Fitting.{Before, receipt_at, length_at, length_in, length_told}
+use Rattle.gd_reconcile.specs.Fitting.{Before, receipt_at, length_at, length_in, refusal_length}
 use Rattle.gd_reconcile.specs.Answering.{AnswerTo, IsFirstWrong, Answers, AnswersIn, AnswersAt, IsQuery, AreQueries, IsBefore, LeastWrong}
 use Rattle.gd_reconcile.proofs.Walks.{before_here, before_end, list_within}
 
@@ -93,7 +93,7 @@ module _ (day : Day) (h : History) (lists : List (List Receipt)) (qs : List Quer
     by_told (Refused k refusal) e =
         subst (Answers day h r.event) (sym e) (λ within.
         let q : Query = record { length = k; list = a; index = j } in
-        let c = are.each a j k b (ap length_in at ∙ ap length_told e) within in
+        let c = are.each a j k b (ap length_in at ∙ ap refusal_length e) within in
         let ok : AnswersAt day h lists a j = was.below c.0 q c.1 c.2 before in
         let here : Answers day h r.event r.told = subst (AnswersIn day h) at ok in
         subst (Answers day h r.event) e here within)

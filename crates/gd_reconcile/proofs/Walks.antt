@@ -12,7 +12,7 @@ use Rattle.gd_machine.specs.History.{History}
 use Rattle.gd_office_part.specs.declared.kept.Receipt.{Receipt}
 use Rattle.gd_office_part.specs.declared.kept.Told.{Told}
 use Rattle.gd_office_part.specs.declared.kept.Told.TheVariants.{Accepted, Refused}
-use Rattle.gd_reconcile.specs.Fitting.{lists_of, InOrder, Before, in_list, receipt_at, number_at, length_at, number_in, length_in, number_told, length_told}
+use Rattle.gd_reconcile.specs.Fitting.{lists_of, InOrder, Before, in_list, receipt_at, number_at, length_at, number_in, length_in, event_number, refusal_length}
 use Rattle.gd_reconcile.specs.Walking.{StandTo, Stands, StandsNew, MayFollow, Walked, given_after, number_after, length_after}
 
 pub before_more : (a j l i : ℕ) → Before a j l (i + 1) → Before a j l i ⊎ ((a ≡ l) × (j ≡ i))
@@ -35,7 +35,7 @@ before_trans a j b k l i (inr x) (inl y) = let x0 = x.0 in inl (omega arith)
 before_trans a j b k l i (inr x) (inr y) = let x0 = x.0 in let x1 = x.1 in let y0 = y.0 in let y1 = y.1 in inr (x0 ∙ y0, omega arith)
 
 -- a number is told by an accepted receipt, a length by a refused one
-number_from : (t : Told) (n : ℕ) → number_told t ≡ Some n → (reply : Reply) × (t ≡ Accepted n reply)
+number_from : (t : Told) (n : ℕ) → event_number t ≡ Some n → (reply : Reply) × (t ≡ Accepted n reply)
 number_from (Accepted m reply) n e = (reply, ap (λ x. Accepted x reply) (same_Some m n e))
 number_from (Refused k refusal) n e = absurd (cc)
 
@@ -43,7 +43,7 @@ pub told_number : (o : Option Receipt) (n : ℕ) → number_in o ≡ Some n → 
 told_number None n e = absurd (cc)
 told_number (Some r) n e = (r, refl, number_from r.told n e)
 
-length_from : (t : Told) (k : ℕ) → length_told t ≡ Some k → (refusal : Refusal) × (t ≡ Refused k refusal)
+length_from : (t : Told) (k : ℕ) → refusal_length t ≡ Some k → (refusal : Refusal) × (t ≡ Refused k refusal)
 length_from (Accepted m reply) k e = absurd (cc)
 length_from (Refused m refusal) k e = (refusal, ap (λ x. Refused x refusal) (same_Some m k e))
 
@@ -59,7 +59,7 @@ module _ (h : History) (lists : List (List Receipt)) (l i : ℕ) (r : Receipt) (
       same_Some s r (sym p ∙ same ∙ at)
 
   pub stand_more : StandTo h lists l i → Stands h r.event r.told
-      → ((a j n : ℕ) → Before a j l i → number_at lists a j ≡ Some n → number_told r.told ≡ Some n → ⊥)
+      → ((a j n : ℕ) → Before a j l i → number_at lists a j ≡ Some n → event_number r.told ≡ Some n → ⊥)
       → ((j : ℕ) (s : Receipt) → j < i → receipt_at lists l j ≡ Some s → InOrder s.told r.told)
       → StandTo h lists l (i + 1)
   stand_more was stands fresh follows =
@@ -73,7 +73,7 @@ module _ (h : History) (lists : List (List Receipt)) (l i : ℕ) (r : Receipt) (
           | inr e ↦
               let e0 = e.0 in let e1 = e.1 in
               let first' : Before a j l i = subst (λ x. Before a j x i) e0 (subst (λ x. Before a j b x) e1 first) in
-              let same : number_at lists b k ≡ number_told r.told = ap (λ x. number_at lists x k) e0 ∙ (ap (λ x. number_at lists l x) e1 ∙ ap number_in at) in
+              let same : number_at lists b k ≡ event_number r.told = ap (λ x. number_at lists x k) e0 ∙ (ap (λ x. number_at lists l x) e1 ∙ ap number_in at) in
               fresh a j n first' p (sym same ∙ q)
         ];
         order = λ a j k s t lt b p q. elim (before_more a k l i b) [
@@ -89,18 +89,18 @@ module _ (h : History) (lists : List (List Receipt)) (l i : ℕ) (r : Receipt) (
   pub stand_alone : StandTo h lists l (i + 1) → Stands h r.event r.told
   stand_alone is = is.alone l i r (before_here l i) at
 
-  pub stand_fresh : StandTo h lists l (i + 1) → (a j n : ℕ) → Before a j l i → number_at lists a j ≡ Some n → number_told r.told ≡ Some n → ⊥
+  pub stand_fresh : StandTo h lists l (i + 1) → (a j n : ℕ) → Before a j l i → number_at lists a j ≡ Some n → event_number r.told ≡ Some n → ⊥
   stand_fresh is a j n b p q = is.once a j l i n b (before_here l i) p (ap number_in at ∙ q)
 
   pub stand_follows : StandTo h lists l (i + 1) → (j : ℕ) (s : Receipt) → j < i → receipt_at lists l j ≡ Some s → InOrder s.told r.told
   stand_follows is j s lt p = is.order l j i s r lt (before_here l i) p at
 
 -- what stands before an accepted receipt, or before a refused one
-below_number : (t : Told) (n : ℕ) (reply : Reply) → ((m : ℕ) → number_told t ≡ Some m → m < n) → ((k : ℕ) → length_told t ≡ Some k → k < n) → InOrder t (Accepted n reply)
+below_number : (t : Told) (n : ℕ) (reply : Reply) → ((m : ℕ) → event_number t ≡ Some m → m < n) → ((k : ℕ) → refusal_length t ≡ Some k → k < n) → InOrder t (Accepted n reply)
 below_number (Accepted m other) n reply f g = f m refl
 below_number (Refused k refusal) n reply f g = g k refl
 
-below_length : (t : Told) (k : ℕ) (refusal : Refusal) → ((m : ℕ) → number_told t ≡ Some m → m ≤ k) → ((x : ℕ) → length_told t ≡ Some x → x ≤ k) → InOrder t (Refused k refusal)
+below_length : (t : Told) (k : ℕ) (refusal : Refusal) → ((m : ℕ) → event_number t ≡ Some m → m ≤ k) → ((x : ℕ) → refusal_length t ≡ Some x → x ≤ k) → InOrder t (Refused k refusal)
 below_length (Accepted m other) k refusal f g = f m refl
 below_length (Refused x other) k refusal f g = g x refl
 
@@ -131,8 +131,8 @@ module _ (h : History) (lists : List (List Receipt)) (l i : ℕ) (g : List Bool)
   accepted_more : (n : ℕ) (reply : Reply) → r.told ≡ Accepted n reply → (nu < n) × (le < n) × StandsNew h g r.event n reply → Walked h lists l (i + 1) (set g (n - 1) true) n le
   accepted_more n reply e may =
       let ok = may.2 in
-      let number_here : number_at lists l i ≡ Some n = ap number_in at ∙ ap number_told e in
-      let no_length : length_at lists l i ≡ None = ap length_in at ∙ ap length_told e in
+      let number_here : number_at lists l i ≡ Some n = ap number_in at ∙ ap event_number e in
+      let no_length : length_at lists l i ≡ None = ap length_in at ∙ ap refusal_length e in
       let inside : n - 1 < length h = slice_get_within h (n - 1) _ ok.stands in
       let long = w.long in
       let counts = ok.counts in
@@ -144,7 +144,7 @@ module _ (h : History) (lists : List (List Receipt)) (l i : ℕ) (g : List Bool)
             (λ a j m b p q.
             let mark = w.marked a j m b p in
             let fresh = ok.fresh in
-            let same : m ≡ n = same_Some m n (sym q ∙ ap number_told e) in
+            let same : m ≡ n = same_Some m n (sym q ∙ ap event_number e) in
             absurd (cc))
             (number_below n reply e may.0 may.1);
         long = length-set g (n - 1) true ∙ w.long;
@@ -179,12 +179,12 @@ module _ (h : History) (lists : List (List Receipt)) (l i : ℕ) (g : List Bool)
 
   refused_more : (k : ℕ) (refusal : Refusal) → r.told ≡ Refused k refusal → (nu ≤ k) × (le ≤ k) × (k ≤ length h) → Walked h lists l (i + 1) g nu k
   refused_more k refusal e ok =
-      let no_number : number_at lists l i ≡ None = ap number_in at ∙ ap number_told e in
-      let length_here : length_at lists l i ≡ Some k = ap length_in at ∙ ap length_told e in
+      let no_number : number_at lists l i ≡ None = ap number_in at ∙ ap event_number e in
+      let length_here : length_at lists l i ≡ Some k = ap length_in at ∙ ap refusal_length e in
       record {
         stand = stand_more h lists l i r at w.stand
             (subst (Stands h r.event) (sym e) ok.2)
-            (λ a j m b p q. let none : Some m ≡ None = sym q ∙ ap number_told e in absurd (cc))
+            (λ a j m b p q. let none : Some m ≡ None = sym q ∙ ap event_number e in absurd (cc))
             (length_below k refusal e ok.0 ok.1);
         long = w.long;
         marked = λ a j m b p. elim (before_more a j l i b) [
@@ -239,7 +239,7 @@ module _ (h : History) (lists : List (List Receipt)) (l i : ℕ) (g : List Bool)
       let fresh : get_or g (n - 1) false ≡ false = fresh_from (get_or g (n - 1) false) (λ given.
       let old = w.given_by (n - 1) given in
       let same : n - 1 + 1 ≡ n = omega arith in
-      stand_fresh h lists l i r at is old.0 old.1 n old.2 (old.3 ∙ ap (λ y. Some y) same) (ap number_told e)) in
+      stand_fresh h lists l i r at is old.0 old.1 n old.2 (old.3 ∙ ap (λ y. Some y) same) (ap event_number e)) in
       (rises, above, record { counts = stands.0; stands = stands.1; fresh = fresh })
 
   refused_less : StandTo h lists l (i + 1) → (k : ℕ) (refusal : Refusal) → r.told ≡ Refused k refusal → (nu ≤ k) × (le ≤ k) × (k ≤ length h)
@@ -363,7 +363,7 @@ before_end n a j l i lt (inl x) = inl (omega arith)
 before_end n a j l i lt (inr x) = let x0 = x.0 in inl (omega arith)
 
 -- the number of a receipt that may follow has its mark
-pub may_mark : (h : History) (g : List Bool) (nu le : ℕ) (event : Event) (t : Told) → length g ≡ length h → MayFollow h g nu le event t → IfSome (number_told t) (λ n. (1 ≤ n) × (n - 1 < length g))
+pub may_mark : (h : History) (g : List Bool) (nu le : ℕ) (event : Event) (t : Told) → length g ≡ length h → MayFollow h g nu le event t → IfSome (event_number t) (λ n. (1 ≤ n) × (n - 1 < length g))
 may_mark h g nu le event (Accepted n reply) long may =
     let inside : n - 1 < length h = slice_get_within h (n - 1) _ may.2.stands in
     (may.2.counts, omega (arith, long, inside))

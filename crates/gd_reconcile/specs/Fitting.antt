@@ -24,21 +24,21 @@ in_list i (Some list) = slice_get list i
 abbrev pub receipt_at : List (List Receipt) → ℕ → ℕ → Option Receipt
 receipt_at lists l i = in_list i (slice_get lists l)
 
-abbrev pub number_told : Told → Option ℕ
-number_told (Accepted n reply) = Some n
-number_told (Refused k refusal) = None
+abbrev pub event_number : Told → Option ℕ
+event_number (Accepted n reply) = Some n
+event_number (Refused k refusal) = None
 
-abbrev pub length_told : Told → Option ℕ
-length_told (Accepted n reply) = None
-length_told (Refused k refusal) = Some k
+abbrev pub refusal_length : Told → Option ℕ
+refusal_length (Accepted n reply) = None
+refusal_length (Refused k refusal) = Some k
 
 abbrev pub number_in : Option Receipt → Option ℕ
 number_in None = None
-number_in (Some r) = number_told r.told
+number_in (Some r) = event_number r.told
 
 abbrev pub length_in : Option Receipt → Option ℕ
 length_in None = None
-length_in (Some r) = length_told r.told
+length_in (Some r) = refusal_length r.told
 
 -- The number of an accepted receipt, and the length that a refused one tells.
 abbrev pub number_at : List (List Receipt) → ℕ → ℕ → Option ℕ

@@ -3,7 +3,7 @@
 
 ghost use Rattle.std.specs.Prelude.{◌≡◌, ◌↔◌, ◌+◌, ◌-◌, ◌<◌, ◌≤◌, IsTrue, IfOk, IfSome, length as len_of};
 ghost use Rattle.std.specs.Option.{MatchOption};
-ghost use Rattle.gd_reconcile.specs.Fitting.{lists_of, number_told};
+ghost use Rattle.gd_reconcile.specs.Fitting.{lists_of, event_number};
 ghost use Rattle.gd_reconcile.specs.Walking.{StandTo, IsFirstDisorder, StandsNew, MayFollow, Walked, given_after, number_after, length_after};
 
 use crate::mismatch::Mismatch;
@@ -90,7 +90,7 @@ fn may_follow(
 
 /// Marks the number of an accepted receipt as given.
 fn mark(given: &mut Vec<bool>, told: &Told)
-    requires { IfSome (number_told told.now) (λ n. (1 ≤ n) × (n - 1 < len_of given.old.items)) }
+    requires { IfSome (event_number told.now) (λ n. (1 ≤ n) × (n - 1 < len_of given.old.items)) }
     ensures { given.new.items ≡ given_after given.old.items told.now }
 {
     if let Told::Accepted(number, _) = told {

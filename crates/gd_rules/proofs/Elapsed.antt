@@ -5,7 +5,7 @@ use Rattle.std.proofs.lemmas.Bool.{le-leb}
 use Rattle.std.proofs.lemmas.Bool.Decides.{nat_tests}
 use Rattle.std.proofs.Math.Nat.{div-le_of_le-mul, mul-le-mul_left}
 use Rattle.gd_rules.specs.Bounds.{flowed, elapsed_after, elapsed, line_floor}
-use Rattle.gd_rules.proofs.Between.{floor_above}
+use Rattle.gd_rules.proofs.FloorBounds.{floor_above}
 
 -- at most all of a quantity flows
 pub flowed_within : (quantity hours rest : ℕ) → hours ≤ rest → flowed quantity hours rest ≤ quantity

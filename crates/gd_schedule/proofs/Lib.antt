@@ -4,5 +4,5 @@ pub mod Surplus
 pub mod Sizes
 pub mod Tenths
 pub mod Faults
-pub mod Compared
+pub mod RowOrder
 mod Examples

@@ -11,7 +11,7 @@ use Rattle.gd_rules.specs.Tree.{HasLines}
 use Rattle.gd_scale.proofs.IntSums.{int_zero, int_changed, nat_raised, nat_term}
 use Rattle.gd_question.specs.Nodes.{AllBring, start, stop, end_node, anchor, inside_part, carried}
 use Rattle.gd_schedule.specs.Sizes.{IsSized}
-use Rattle.gd_schedule.specs.Surplus.{held, brought, through, size, IsSurplus, IsPassedOn}
+use Rattle.gd_schedule.specs.Surplus.{surplus_inside, net_supply, through, size, IsSurplus, IsPassedOn}
 use Rattle.gd_schedule.specs.Table.{IsTable}
 use Rattle.gd_schedule.proofs.Balance.{balanced_are_loads, joined}
 
@@ -51,8 +51,8 @@ part_none : (b : Bool) → inside_part b (pos 0) ≡ pos 0
 part_none true = refl
 part_none false = refl
 
-held_added : (inside : ℕ → Bool) (n at : ℕ) (s t : List ℤ) (a : ℤ) → at < n → IsAdded s t at a → held inside n t ≡ held inside n s +ℤ inside_part (inside at) a
-held_added inside n at s t a h added =
+inside_added : (inside : ℕ → Bool) (n at : ℕ) (s t : List ℤ) (a : ℤ) → at < n → IsAdded s t at a → surplus_inside inside n t ≡ surplus_inside inside n s +ℤ inside_part (inside at) a
+inside_added inside n at s t a h added =
     let f : ℕ → ℤ = λ v. inside_part (inside v) (get_or s v (pos 0)) in
     let g : ℕ → ℤ = λ v. inside_part (inside v) (get_or t v (pos 0)) in
     let changed : sum_int n g +ℤ f at ≡ sum_int n f +ℤ g at = int_changed n at f g h (λ v k other. ap (inside_part (inside v)) (added_other s t at a added v other)) in
@@ -115,10 +115,10 @@ line_adds q x k s t u lines known few long one longer two before = record {
   holds = λ inside.
       let o : Bool = inside (end_node l.origin) in
       let d : Bool = inside (end_node l.dest) in
-      line_carries o d m (brought q x inside k) (held inside n t) (held inside n u) (brought q x inside (k + 1))
-      (held_added inside n (end_node l.origin) s t (pos m) origin one ∙ ap (λ w. w +ℤ inside_part o (pos m)) (before.holds inside))
-      (held_added inside n (end_node l.dest) t u (neg_ℤ (pos m)) dest two)
-      (ap (brought q x inside) (add-one k));
+      line_carries o d m (net_supply q x inside k) (surplus_inside inside n t) (surplus_inside inside n u) (net_supply q x inside (k + 1))
+      (inside_added inside n (end_node l.origin) s t (pos m) origin one ∙ ap (λ w. w +ℤ inside_part o (pos m)) (before.holds inside))
+      (inside_added inside n (end_node l.dest) t u (neg_ℤ (pos m)) dest two)
+      (ap (net_supply q x inside) (add-one k));
   small =
       (let a : size n t ≤ size n s + m = size_added n (end_node l.origin) s t (pos m) origin one in
       let b : size n u ≤ size n t + m = subst (λ z. size n u ≤ size n t + z) (abs_less m) (size_added n (end_node l.dest) t u (neg_ℤ (pos m)) dest two) in
@@ -150,7 +150,7 @@ none_passed q x s n e h = record {
       let p : through q inside (replicate n (pos 0)) ≡ pos 0 =
       int_zero (length q.elements) (λ e. carried (inside (start q e)) (inside (stop q e)) (get_or (replicate n (pos 0)) e (pos 0)))
       (λ i k. ap (carried (inside (start q i)) (inside (stop q i))) (nothing i k) ∙ carried_none (inside (start q i)) (inside (stop q i))) in
-      h.holds inside ∙ sym (nothing_more (brought q x inside (length q.lines))) ∙ ap (λ w. brought q x inside (length q.lines) +ℤ w) (sym p);
+      h.holds inside ∙ sym (nothing_more (net_supply q x inside (length q.lines))) ∙ ap (λ w. net_supply q x inside (length q.lines) +ℤ w) (sym p);
   left = nothing;
   small = h.small;
 }
@@ -197,9 +197,9 @@ passed_on q x e s t table z grown known long added ends before = record {
         | inl h ↦ moved_in here there a ∙ ap (λ w. inside_part here a +ℤ w) (sym (ap (λ v. carried (inside v) (inside (stop q e)) z) h.0 ∙ ap (λ v. carried here (inside v) z) h.1 ∙ ap (carried here there) h.2))
         | inr h ↦ moved_out here there a ∙ ap (λ w. inside_part here a +ℤ w) (sym (ap (λ v. carried (inside v) (inside (stop q e)) z) h.0 ∙ ap (λ v. carried there (inside v) z) h.1 ∙ ap (carried there here) h.2))
       ] in
-      let all : held inside (e + 1) s +ℤ inside_part here a ≡ brought q x inside (length q.lines) +ℤ through q inside table = sym (ap (λ n. held inside n s) (add-one (e + 1))) ∙ before.holds inside in
-      let rest : held inside (e + 1) t ≡ held inside (e + 1) s +ℤ inside_part there a = held_added inside (e + 1) (anchor e (element q e)) s t a earlier added in
-      together (held inside (e + 1) t) (held inside (e + 1) s) (inside_part here a) (inside_part there a) (brought q x inside (length q.lines)) (through q inside table) (through q inside (set table e z)) (f e) (g e) (carried (inside (start q e)) (inside (stop q e)) z) rest all moved more none own;
+      let all : surplus_inside inside (e + 1) s +ℤ inside_part here a ≡ net_supply q x inside (length q.lines) +ℤ through q inside table = sym (ap (λ n. surplus_inside inside n s) (add-one (e + 1))) ∙ before.holds inside in
+      let rest : surplus_inside inside (e + 1) t ≡ surplus_inside inside (e + 1) s +ℤ inside_part there a = inside_added inside (e + 1) (anchor e (element q e)) s t a earlier added in
+      together (surplus_inside inside (e + 1) t) (surplus_inside inside (e + 1) s) (inside_part here a) (inside_part there a) (net_supply q x inside (length q.lines)) (through q inside table) (through q inside (set table e z)) (f e) (g e) (carried (inside (start q e)) (inside (stop q e)) z) rest all moved more none own;
   left = λ i h. get_or-set_other table e i z (pos 0) (λ same. absurd (omega arith)) ∙ before.left i (omega arith);
   small =
       (let p : size (e + 1) t ≤ size (e + 1) s + unsigned_abs a = size_added (e + 1) (anchor e (element q e)) s t a earlier added in
@@ -222,9 +222,9 @@ all_passed q x s table lines grown h = record {
   sized = h.long;
   is = λ e k. sym (balanced_are_loads q x (λ i. get_or table i (pos 0)) lines grown
       (λ inside.
-      let p : pos 0 +ℤ inside_part (inside 0) (get_or s 0 (pos 0)) ≡ brought q x inside (length q.lines) +ℤ through q inside table = h.holds inside in
+      let p : pos 0 +ℤ inside_part (inside 0) (get_or s 0 (pos 0)) ≡ net_supply q x inside (length q.lines) +ℤ through q inside table = h.holds inside in
       let r : inside_part (inside 0) (get_or s 0 (pos 0)) ≡ pos 0 = ap (inside_part (inside 0)) nothing ∙ part_none (inside 0) in
-      turned (brought q x inside (length q.lines)) (through q inside table) (inside_part (inside 0) (get_or s 0 (pos 0))) p r) e k);
+      turned (net_supply q x inside (length q.lines)) (through q inside table) (inside_part (inside 0) (get_or s 0 (pos 0))) p r) e k);
 }
   where
     turned : (b t i : ℤ) → pos 0 +ℤ i ≡ b +ℤ t → i ≡ pos 0 → t +ℤ b ≡ pos 0
@@ -236,7 +236,7 @@ all_passed q x s table lines grown h = record {
     -- nothing is carried into the set of all nodes
     nothing : get_or s 0 (pos 0) ≡ pos 0
     nothing =
-        let p : pos 0 +ℤ get_or s 0 (pos 0) ≡ brought q x (λ _. true) (length q.lines) +ℤ through q (λ _. true) table = h.holds (λ _. true) in
-        let b : brought q x (λ _. true) (length q.lines) ≡ pos 0 = int_zero (length q.lines) (λ i. carried true true (pos (quantity x i))) (λ i k. everywhere (pos (quantity x i))) in
+        let p : pos 0 +ℤ get_or s 0 (pos 0) ≡ net_supply q x (λ _. true) (length q.lines) +ℤ through q (λ _. true) table = h.holds (λ _. true) in
+        let b : net_supply q x (λ _. true) (length q.lines) ≡ pos 0 = int_zero (length q.lines) (λ i. carried true true (pos (quantity x i))) (λ i k. everywhere (pos (quantity x i))) in
         let t : through q (λ _. true) table ≡ pos 0 = int_zero (length q.elements) (λ e. carried true true (get_or table e (pos 0))) (λ e k. everywhere (get_or table e (pos 0))) in
         omega (arith, ints)

@@ -5,7 +5,7 @@ use Rattle.gd_rules.specs.Question.{Element, Line, Question, element, line, cros
 use Rattle.gd_rules.specs.Question.Element.{Segment, Receipt, Delivery, Pool}
 use Rattle.gd_rules.specs.Tree.{IsLine, CanSend, CanTake, LeadsTo, Follows, place_of}
 use Rattle.gd_scale.proofs.Group.{injective}
-use Rattle.gd_rules.proofs.Crossed.{crossed_is, route_total, origin_pays}
+use Rattle.gd_rules.proofs.LinePayments.{crossed_is, route_total, origin_pays}
 use Rattle.gd_question.specs.Nodes.{start_of, stop_of, start, stop, end_node}
 
 module _ {V : Type 0} (s : Scale V) (l : IsLawful s) where

@@ -9,7 +9,7 @@ use Rattle.gd_rules.specs.Question.Element.{Segment, Receipt, Delivery, Pool}
 use Rattle.gd_rules.specs.Tree.{place_of, IsTree}
 use Rattle.gd_tree.specs.Grown.{IsGrown, IsNoSegment, Joins}
 use Rattle.gd_tree.proofs.Grown.{below_or, tree}
-use Rattle.gd_tree.proofs.Agree.{grown_with}
+use Rattle.gd_tree.proofs.Agreement.{grown_with}
 use Rattle.gd_system.specs.Pipeline.{Pipeline, elements_of, point_element}
 use Rattle.gd_system.specs.Known.{IsBuilt, IsSystem}
 use Rattle.gd_units.specs.declared.service.Kind.{Kind}

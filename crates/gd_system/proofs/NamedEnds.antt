@@ -7,9 +7,9 @@ use Rattle.gd_rules.specs.Question.{Element}
 use Rattle.gd_rules.specs.Question.Element.{Segment, Receipt, Delivery, Pool}
 use Rattle.gd_rules.specs.Tree.{place_of, CanSend, CanTake, IsRoute}
 use Rattle.gd_tree.specs.Grown.{IsGrown, IsNoSegment, Joins, has_route, route_of}
-use Rattle.gd_tree.proofs.Agree.{route_with}
+use Rattle.gd_tree.proofs.Agreement.{route_with}
 use Rattle.std.proofs.lemmas.List.{get_or_append_left, get_or_past}
-use Rattle.gd_tree.proofs.Along.{has_route_with, routes}
+use Rattle.gd_tree.proofs.Directions.{has_route_with, routes}
 use Rattle.gd_system.specs.Pipeline.{Pipeline, elements_of, names_of, same_name, element_number, element_of}
 use Rattle.gd_system.specs.Route.{element_at, is_segment, is_receipt, is_delivery, ends_at, ends_between, ends_found, ends_of, AreEnds, AreParted, IsTheRoute}
 use Rattle.gd_system.specs.Known.{IsSystem}

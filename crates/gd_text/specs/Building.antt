@@ -12,13 +12,13 @@ built_from step n x [] = Ok x
 built_from step n x (r ∷ rows) = step n x r >>= λ y. built_from step (n + 1) y rows
 
 -- A fault of a row as one of the text.
-abbrev pub told_at : RowFault → TextFault
-told_at f = fault.Row f.row f.cause
+abbrev pub row_fault : RowFault → TextFault
+row_fault f = fault.Row f.row f.cause
 
 -- A refusal by another name.
-abbrev pub told : {X F : Type 0} → (F → TextFault) → Result X F → Result X TextFault
-told name (Ok x) = Ok x
-told name (Err f) = Err (name f)
+abbrev pub result_as : {X F : Type 0} → (F → TextFault) → Result X F → Result X TextFault
+result_as name (Ok x) = Ok x
+result_as name (Err f) = Err (name f)
 
 -- What a call made of a value, which is new now, or its refusal.
 abbrev pub Becomes : {X : Type 0} → X → Result (Unit {0}) TextFault → Result X TextFault → Type 0

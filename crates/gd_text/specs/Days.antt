@@ -5,7 +5,7 @@ use Rattle.gd_text_part.specs.Places.{missing_head}
 use Rattle.gd_text_part.specs.declared.fault.TextFault.{TextFault}
 use Rattle.gd_text_part.specs.declared.row.Row.{Row}
 use Rattle.gd_text_part.specs.declared.row.Row.TheVariants as row
-use Rattle.gd_text.specs.Building.{told_at}
+use Rattle.gd_text.specs.Building.{row_fault}
 
 -- The date and the zone of the first `day` row.
 abbrev pub first_day : List Row → Option (YearMonthDay × List ℕ)
@@ -14,7 +14,7 @@ first_day (row.Day date zone book ∷ rows) = Some (date, zone)
 first_day (r ∷ rows) = first_day rows
 
 abbrev pub day_under : List Row → Option (YearMonthDay × List ℕ) → Result (YearMonthDay × List ℕ) TextFault
-day_under rows None = Err (told_at (missing_head (length rows)))
+day_under rows None = Err (row_fault (missing_head (length rows)))
 day_under rows (Some day) = Ok day
 
 -- The gas day of a text, or that it has none.

@@ -17,27 +17,27 @@ use Rattle.gd_question.specs.declared.fault.CapacityFault.{CapacityFault}
 use Rattle.gd_question.specs.declared.fault.LineFault.{LineFault}
 use Rattle.gd_question.specs.declared.fault.LineFault.TheVariants as line
 use Rattle.gd_text_part.specs.Places.{missing_head}
-use Rattle.gd_text.specs.Building.{built_from, told, told_at}
+use Rattle.gd_text.specs.Building.{built_from, result_as, row_fault}
 
 -- A refusal is told at its row, and want of memory as such.
-abbrev pub build_told : ℕ → BuildFault → TextFault
-build_told n build.OutOfMemory = fault.OutOfMemory
-build_told n f = fault.Row n (cause.Build f)
+abbrev pub build_fault_at : ℕ → BuildFault → TextFault
+build_fault_at n build.OutOfMemory = fault.OutOfMemory
+build_fault_at n f = fault.Row n (cause.Build f)
 
-abbrev pub line_told : ℕ → LineFault → TextFault
-line_told n line.OutOfMemory = fault.OutOfMemory
-line_told n (line.Route route.OutOfMemory) = fault.OutOfMemory
-line_told n f = fault.Row n (cause.Line f)
+abbrev pub line_fault_at : ℕ → LineFault → TextFault
+line_fault_at n line.OutOfMemory = fault.OutOfMemory
+line_fault_at n (line.Route route.OutOfMemory) = fault.OutOfMemory
+line_fault_at n f = fault.Row n (cause.Line f)
 
-abbrev pub capacity_told : ℕ → CapacityFault → TextFault
-capacity_told n f = fault.Row n (cause.Capacity f)
+abbrev pub capacity_fault_at : ℕ → CapacityFault → TextFault
+capacity_fault_at n f = fault.Row n (cause.Capacity f)
 
 -- The pipeline after row n: a segment, point or pool is added to it, and other rows say nothing of it.
 abbrev pub pipeline_step : ℕ → Pipeline → Row → Result Pipeline TextFault
-pipeline_step n p (row.Pipeline (pipeline.Segment name from to limit)) = told (build_told n) (after_segment p name from to limit)
+pipeline_step n p (row.Pipeline (pipeline.Segment name from to limit)) = result_as (build_fault_at n) (after_segment p name from to limit)
 pipeline_step n p (row.Pipeline (pipeline.Point name kind place operator limit)) =
-    told (build_told n) (after_point p name kind place operator limit)
-pipeline_step n p (row.Pipeline (pipeline.Pool name place operator)) = told (build_told n) (after_pool p name place operator)
+    result_as (build_fault_at n) (after_point p name kind place operator limit)
+pipeline_step n p (row.Pipeline (pipeline.Pool name place operator)) = result_as (build_fault_at n) (after_pool p name place operator)
 pipeline_step n p r = Ok p
 
 abbrev pub finished : ℕ → Pipeline → Result Pipeline TextFault
@@ -55,18 +55,18 @@ head_of (r ∷ rows) = head_of rows
 
 abbrev pub capacity_at : ℕ → Posed → Option ℕ → ℕ → Result Posed TextFault
 capacity_at n q None limit = Err (fault.Row n cause.UnknownElement)
-capacity_at n q (Some e) limit = told (capacity_told n) (after_capacity q e limit)
+capacity_at n q (Some e) limit = result_as (capacity_fault_at n) (after_capacity q e limit)
 
 -- The question after row n: a capacity is set, a line is added, and other rows say nothing of it.
 abbrev pub question_step : ℕ → Posed → Row → Result Posed TextFault
 question_step n q (row.Question (question.Capacity element limit)) =
     capacity_at n q (element_number q.pipeline element) limit
 question_step n q (row.Question (question.Line origin dest class floor ceiling)) =
-    told (line_told n) (after_line q origin dest class floor ceiling)
+    result_as (line_fault_at n) (after_line q origin dest class floor ceiling)
 question_step n q r = Ok q
 
 abbrev pub question_under : List Row → Pipeline → Option (List ℕ × ℕ × ℕ) → Result Posed TextFault
-question_under rows p None = Err (told_at (missing_head (length rows)))
+question_under rows p None = Err (row_fault (missing_head (length rows)))
 question_under rows p (Some head) = built_from question_step 1 (posed p head.0 head.1 head.2) rows
 
 -- The question of all rows about a pipeline.

@@ -20,7 +20,7 @@ pub struct Asked {
 }
 
 fn build_fault(row: u64, fault: BuildFault) -> TextFault
-    ensures { result ≡ spec.build_told row fault }
+    ensures { result ≡ spec.build_fault_at row fault }
 {
     match fault {
         BuildFault::OutOfMemory => TextFault::OutOfMemory,
@@ -29,7 +29,7 @@ fn build_fault(row: u64, fault: BuildFault) -> TextFault
 }
 
 fn line_fault(row: u64, fault: LineFault) -> TextFault
-    ensures { result ≡ spec.line_told row fault }
+    ensures { result ≡ spec.line_fault_at row fault }
 {
     match fault {
         LineFault::OutOfMemory | LineFault::Route(RouteFault::OutOfMemory) => {

@@ -4,6 +4,6 @@ pub mod Digits
 pub mod EmptyFields
 pub mod ExampleTexts
 mod OfficeRows
-pub mod RecordsTaken
+pub mod RecordReads
 pub mod TextScan
 pub mod Utf8Test

@@ -3,7 +3,7 @@ use Rattle.std.proofs.Common.{◌≡◌, ℕ, ◌+◌, ◌⊎◌, List, [], ◌�
 use Rattle.std.proofs.lemmas.List.{append-nil}
 use Rattle.gd_text_part.specs.Places.{row_of, at_end}
 use Rattle.gd_text_part.specs.Rows.{◌>>=◌}
-use Rattle.gd_text_part.specs.Found.{Finds}
+use Rattle.gd_text_part.specs.Findings.{Finds}
 use Rattle.gd_text_part.specs.Texts.{BlamesNoRow, HasManyBytes, HasManyRows, IsWithin, Reads, Tells, rows_from, rows_of}
 use Rattle.gd_text_part.specs.declared.fault.RowFault.{RowFault}
 use Rattle.gd_text_part.specs.declared.fault.TextFault.{TextFault}

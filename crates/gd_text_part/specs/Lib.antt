@@ -2,7 +2,7 @@ pub mod Causes
 pub mod Csv
 pub mod Dates
 pub mod Events
-pub mod Found
+pub mod Findings
 pub mod Kinds
 pub mod Numbers
 pub mod Offices

@@ -2,7 +2,7 @@
 use Rattle.std.specs.Prelude.{ℕ, ◌+◌, Bool, true, false, ◌==◌, ◌&&◌, ◌||◌, not, nat_le, if◌then◌else◌}
 use Rattle.std.specs.Prelude.{List, length, Option, Some, None, Result, Ok, Err}
 use Rattle.gd_text_part.specs.Events.{event_row, session_row, desk_row}
-use Rattle.gd_text_part.specs.Found.{at_row}
+use Rattle.gd_text_part.specs.Findings.{at_row}
 use Rattle.gd_text_part.specs.Kinds.{kind_in, stage_of, is_sched, is_of_certificate, is_of_cut, takes, needs_book}
 use Rattle.gd_text_part.specs.Offices.{no_blocks, begins, with_block, counted, phase_behind, party_of, lacks_session}
 use Rattle.gd_text_part.specs.Rows.{◌>>=◌, field, segment_row, point_row, pool_row, contract_row, question_row, day_row}

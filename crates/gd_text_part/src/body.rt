@@ -3,7 +3,7 @@
 ghost use Rattle.std.specs.Prelude.{◌≡◌, ◌<◌, MatchResult, Ok, Err};
 ghost use Rattle.csv.specs.Records.{fields_of};
 ghost use Rattle.gd_text_part.specs.declared.row.Row.TheVariants as rows;
-ghost use Rattle.gd_text_part.specs.Found.{Finds, at_row};
+ghost use Rattle.gd_text_part.specs.Findings.{Finds, at_row};
 ghost use Rattle.gd_text_part.specs.Rows as spec;
 
 use crate::date::CivilDate;

@@ -2,7 +2,7 @@
 
 ghost use Rattle.std.specs.Prelude.{◌≡◌, ◌<◌, ◌≤◌, ◌+◌, ◌^◌, IfOk};
 ghost use Rattle.csv.specs.Records.{fields_of};
-ghost use Rattle.gd_text_part.specs.Found.{Finds, at_row};
+ghost use Rattle.gd_text_part.specs.Findings.{Finds, at_row};
 
 use crate::blocks::Blocks;
 use crate::body::{

@@ -4,8 +4,8 @@ pub mod Steps
 pub mod Fields
 pub mod Levels
 pub mod Counts
-pub mod Agree
-pub mod Along
+pub mod Agreement
+pub mod Directions
 mod Examples
 pub mod Same
 pub mod Lifts

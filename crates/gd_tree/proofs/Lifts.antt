@@ -10,8 +10,8 @@ use Rattle.gd_tree.specs.declared.Step.{Step}
 use Rattle.gd_tree.specs.Grown.{Joins, IsGrown, IsNoSegment, earlier, low_of, walk_of, leads, goes_along, has_route}
 use Rattle.gd_tree.specs.Lifts.{LiftsUp, LiftsDown, IsLift}
 use Rattle.gd_tree.specs.Steps.{IsStep}
-use Rattle.gd_tree.proofs.Agree.{walk_agree}
-use Rattle.gd_tree.proofs.Along.{leads_yes, leads_so, runs_yes, runs_so}
+use Rattle.gd_tree.proofs.Agreement.{walk_agree}
+use Rattle.gd_tree.proofs.Directions.{leads_yes, leads_so, runs_yes, runs_so}
 use Rattle.gd_tree.proofs.Grown.{low_falls, earlier-from, earlier-to}
 use Rattle.gd_tree.proofs.Steps.{step_front, step_back, runs_same}
 use Rattle.gd_tree.proofs.Walks.{Hops, made, walk-within}

@@ -1,4 +1,4 @@
-use Rattle.gd_tree.proofs.Along.{route_few}
+use Rattle.gd_tree.proofs.Directions.{route_few}
 use Rattle.gd_tree.proofs.routes_are_short.Goals as goal
 
 pub returns : goal.returns

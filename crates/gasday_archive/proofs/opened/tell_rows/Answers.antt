@@ -12,7 +12,7 @@ pub returns-in-Ok : goal.returns-in-Ok
 returns-in-Ok g c =
     let gives = g.O.Opener.opens c.args.opener in
     let rows = c.args.rows.now in
-    let o : Opened = record { date = c.in-Ok.text.date; zone = c.in-Ok.text.zone; book = c.in-Ok.text.book; held = c.in-Ok.text.contracts; carry = c.in-Ok.text.carry.items } in
+    let o : Opened = record { date = c.in-Ok.text.date; zone = c.in-Ok.text.zone; book = c.in-Ok.text.book; holdings = c.in-Ok.text.contracts; carry = c.in-Ok.text.carry.items } in
     told_so (TellsDate g.S.Store gives rows o) (TellsDay g.S.Store gives rows (opened_of rows)) c.tell_text.result.archive c.tell_text.result.answer
     (λ a t. subst (λ (r : Result Opened TextFault). TellsDay g.S.Store gives rows r c.tell_text.result.archive a) (sym c.in-Ok.ensures.values) t) c.tell_text.ensures
 

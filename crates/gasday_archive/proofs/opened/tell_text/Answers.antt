@@ -16,11 +16,11 @@ returns-in-Ok-open g c =
 
 pub returns-in-Ok : goal.returns-in-Ok
 returns-in-Ok g c =
-    let o : Opened = record { date = c.args.text.date; zone = c.args.text.zone; book = c.args.text.book; held = c.args.text.contracts; carry = c.args.text.carry.items } in
+    let o : Opened = record { date = c.args.text.date; zone = c.args.text.zone; book = c.args.text.book; holdings = c.args.text.contracts; carry = c.args.text.carry.items } in
     unopened (TellsDate g.S.Store (g.O.Opener.opens c.args.opener) c.args.rows.now o) c.unopened.result.archive (Err _) c.unopened.result.answer c.unopened.ensures.archive c.unopened.ensures.answer tt
 
 pub returns : goal.returns
 returns g c =
-    let o : Opened = record { date = c.args.text.date; zone = c.args.text.zone; book = c.args.text.book; held = c.args.text.contracts; carry = c.args.text.carry.items } in
+    let o : Opened = record { date = c.args.text.date; zone = c.args.text.zone; book = c.args.text.book; holdings = c.args.text.contracts; carry = c.args.text.carry.items } in
     unopened (TellsDate g.S.Store (g.O.Opener.opens c.args.opener) c.args.rows.now o) c.unopened-in-Err.result.archive c.of_no_calendar.result c.unopened-in-Err.result.answer c.unopened-in-Err.ensures.archive c.unopened-in-Err.ensures.answer
     (IfOk-weaker c.of_no_calendar.result _ _ (λ a t. inr (c.in-Err.fault, t.0, c.in-Err.ensures.err, refl, t.1)) c.of_no_calendar.ensures)

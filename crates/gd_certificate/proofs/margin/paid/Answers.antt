@@ -3,7 +3,7 @@ use Rattle.std.specs.Prelude.{pos}
 use Rattle.gd_rules.specs.Question.{line, element}
 use Rattle.gd_rules.specs.Tree.{CanSend, place_of}
 use Rattle.gd_rules.specs.Priced.{price}
-use Rattle.gd_certificate.specs.Paid.{origin_price}
+use Rattle.gd_certificate.specs.Payments.{origin_price}
 use Rattle.gd_certificate.specs.Levels.{level}
 use Rattle.gd_certificate.proofs.Paying.{paid_is, ends_fit, route_fits, all_fit, route_large, ends_large}
 use Rattle.gd_certificate.proofs.margin.paid.Goals as goal

@@ -1,7 +1,7 @@
 use Rattle.std.proofs.Common.{sym, ap, ◌∙◌, refl, length}
 use Rattle.std.specs.Prelude.{◌&&◌}
 use Rattle.gd_tree.specs.Grown.{has_route}
-use Rattle.gd_contracts.proofs.Classed.{in_path_here, in_path_is}
+use Rattle.gd_contracts.proofs.ClassAnswers.{in_path_here, in_path_is}
 use Rattle.gd_contracts.proofs.class.in_path.Goals as goal
 
 pub returns-then-origin-dest : goal.returns-then-origin-dest

@@ -21,7 +21,7 @@ pub returns-in-Post-clause-posted : goal.returns-in-Post-clause-posted
 returns-in-Post-clause-posted g c =
     let b = c.args.book.now in
     let e = c.in-Post in
-    told call.Post b.day b.history c.post.new.book.history (event.PostCapacity e.moment (named.element_named b.day.held.pipeline e.element) e.capacity) c.args.note.now (λ rows. rows.items) c.post.result (λ o. tt) c.post.ensures.gives
+    told call.Post b.day b.history c.post.new.book.history (event.PostCapacity e.moment (named.element_named b.day.holdings.pipeline e.element) e.capacity) c.args.note.now (λ rows. rows.items) c.post.result (λ o. tt) c.post.ensures.gives
 
 pub returns-in-Freeze-clause-posted : goal.returns-in-Freeze-clause-posted
 returns-in-Freeze-clause-posted g c =

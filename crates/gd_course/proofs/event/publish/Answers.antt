@@ -10,7 +10,7 @@ use Rattle.gd_course.proofs.event.publish.Goals as goal
 
 pub returns-clause-gives : goal.returns-clause-gives
 returns-clause-gives g c =
-    let p = c.args.book.now.day.held.pipeline in
+    let p = c.args.book.now.day.holdings.pipeline in
     let same : c.args.round ≡ round_of c.args.book.now.history = eqb-true _ _ (not_false _ (sym c.if-ne.ensures)) ∙ c.round-current.ensures ∙ ap (λ (q : Posed). q.round) c.in-Some.ensures.1 in
     let are = rw c.system.ensures at c.in_ok-prices.ensures in
     let offers = made (prices_of c.args.group.now p) c.in_ok-prices.prices c.requires.passes.prices are in

@@ -2,13 +2,13 @@ use Rattle.std.specs.Prelude.{◌⊎◌}
 use Rattle.std.proofs.Common.{◌≡◌, ◌+◌, inl, inr, Result, Err}
 use Rattle.gd_text_part.specs.declared.fault.TextFault.{TextFault}
 use Rattle.gd_text_part.specs.declared.fault.TextFault.TheVariants as fault
-use Rattle.gd_contracts.specs.Held.{Held}
+use Rattle.gd_contracts.specs.Holdings.{Holdings}
 use Rattle.gd_day.specs.ContractRows.{contract_step, contracts_on}
 use Rattle.std.proofs.lemmas.Result.{err_from_is_err_and}
 use Rattle.gd_text.proofs.Building.{goes_on, stops, is_done}
 use Rattle.gd_day.proofs.contracts.contracts_on.Goals as goal
 
-either : (f : TextFault) (built step : Result Held TextFault) → (step ≡ Err f → built ≡ Err f) → (f ≡ fault.OutOfMemory) ⊎ (step ≡ Err f) → (f ≡ fault.OutOfMemory) ⊎ (built ≡ Err f)
+either : (f : TextFault) (built step : Result Holdings TextFault) → (step ≡ Err f → built ≡ Err f) → (f ≡ fault.OutOfMemory) ⊎ (step ≡ Err f) → (f ≡ fault.OutOfMemory) ⊎ (built ≡ Err f)
 either f built step go (inl m) = inl m
 either f built step go (inr e) = inr (go e)
 

@@ -7,7 +7,7 @@ use Rattle.gd_day.specs.Groups.{checked_group, checked_calls}
 use Rattle.gd_day.specs.Marks.{AreBefore}
 use Rattle.std.proofs.lemmas.List.{take_at}
 use Rattle.std.proofs.lemmas.Result.{err_from_is_err_and}
-use Rattle.gd_day.proofs.Called.{call_at, calls_left, passes_over, comes_to, none_left, group_long}
+use Rattle.gd_day.proofs.CallGroups.{call_at, calls_left, passes_over, comes_to, none_left, group_long}
 use Rattle.gd_day.proofs.group.check_calls.Goals as goal
 
 -- what the calls are, once their first was checked

@@ -4,7 +4,7 @@ use Rattle.gd_system.specs.Pipeline.{elements_of}
 use Rattle.gd_day.specs.Calls.{calls_of}
 use Rattle.gd_day.specs.Groups.{checked_calls}
 use Rattle.gd_day.specs.Marks.{AreBefore}
-use Rattle.gd_day.proofs.Called.{calls_left}
+use Rattle.gd_day.proofs.CallGroups.{calls_left}
 use Rattle.gd_day.proofs.group.check_calls.Given as goal
 
 -- The calls that are left, the group of the next one begun, are checked as all are; and no mark is of that group.

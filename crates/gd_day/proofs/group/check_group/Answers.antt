@@ -7,7 +7,7 @@ use Rattle.gd_text.specs.Members.{members_from}
 use Rattle.gd_day.specs.Groups.{checked}
 use Rattle.gd_day.specs.Marks.{mark_step, AreBefore}
 use Rattle.std.proofs.lemmas.Result.{err_from_is_err_and}
-use Rattle.gd_day.proofs.Marked.{IsMarked, prices_checked, rows_marked}
+use Rattle.gd_day.proofs.MarkTables.{IsMarked, prices_checked, rows_marked}
 use Rattle.gd_day.proofs.group.check_group.Goals as goal
 
 pub returns-in_err-check_prices-clause-checked : goal.returns-in_err-check_prices-clause-checked

@@ -1,5 +1,5 @@
 use Rattle.gd_reconcile.specs.Fitting.{lists_of}
-use Rattle.gd_office.proofs.Fitted.{fit_as_many, explained}
+use Rattle.gd_office.proofs.Histories.{fit_as_many, explained}
 use Rattle.gd_office.proofs.reconciling.fitted.Goals as goal
 
 pub returns-clause-ok : goal.returns-clause-ok

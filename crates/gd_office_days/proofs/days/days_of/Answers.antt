@@ -10,7 +10,7 @@ use Rattle.gd_day.specs.declared.text.DayText.{DayText}
 use Rattle.gd_office_days.specs.Blocks.{Block}
 use Rattle.gd_office_days.specs.Days.{opened, opened_in, opened_after, days_of}
 use Rattle.gd_office_days.proofs.Cutting.{blocks_left, block_at, goes_in, begins}
-use Rattle.gd_office_days.proofs.Named.{goes_on}
+use Rattle.gd_office_days.proofs.BookNames.{goes_on}
 use Rattle.gd_office_days.proofs.days.days_of.Goals as goal
 
 abbrev CarriesOnce : DayText → Type 0

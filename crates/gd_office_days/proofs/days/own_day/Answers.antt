@@ -2,7 +2,7 @@ use Rattle.std.specs.Prelude.{map}
 use Rattle.std.proofs.Common.{◌∙◌, subst, sym}
 use Rattle.gd_text.specs.Building.{Builds}
 use Rattle.gd_office_days.specs.Days.{opened, head_at}
-use Rattle.gd_office_days.proofs.Named.{no_head}
+use Rattle.gd_office_days.proofs.BookNames.{no_head}
 use Rattle.gd_office_days.proofs.days.own_day.Goals as goal
 
 pub returns-in_default-clause-values : goal.returns-in_default-clause-values

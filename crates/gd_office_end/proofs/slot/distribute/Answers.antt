@@ -13,6 +13,6 @@ returns g c =
       λ k d lt.
           let none : pick k (drop c.loop-item.at c.args.rows.now) (into_iter_items c.loop-item.item-iterator) ≡ [] =
           ap (λ xs. pick k (drop c.loop-item.at c.args.rows.now) xs) end ∙ pick_none (drop c.loop-item.at c.args.rows.now) k in
-          sym (append-nil (get_or c.loop-item.held.items k d).items)
-          ∙ (ap (λ t. (get_or c.loop-item.held.items k d).items ++ t) (sym none) ∙ c.loop-item.invariant.more k d lt),
+          sym (append-nil (get_or c.loop-item.holding.items k d).items)
+          ∙ (ap (λ t. (get_or c.loop-item.holding.items k d).items ++ t) (sym none) ∙ c.loop-item.invariant.more k d lt),
     )

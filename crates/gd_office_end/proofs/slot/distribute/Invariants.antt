@@ -9,8 +9,8 @@ abbrev pub invariant-loop-item : goal.invariant-loop-item
 invariant-loop-item g l =
     record {
       left : l.at + into_iter_len l.item-iterator ≡ length l.rows;
-      same : length l.held.items ≡ length l.fn.held.items;
-      more : (k : ℕ) (d : Vec g.row.T.Denot) → k < length l.fn.held.items
-          → (get_or l.held.items k d).items ++ pick k (drop l.at l.rows) (into_iter_items l.item-iterator)
-          ≡ (get_or l.fn.held.items k d).items ++ pick k l.rows l.fn.items.items;
+      same : length l.holding.items ≡ length l.fn.holding.items;
+      more : (k : ℕ) (d : Vec g.row.T.Denot) → k < length l.fn.holding.items
+          → (get_or l.holding.items k d).items ++ pick k (drop l.at l.rows) (into_iter_items l.item-iterator)
+          ≡ (get_or l.fn.holding.items k d).items ++ pick k l.rows l.fn.items.items;
     }

@@ -3,4 +3,4 @@ use Rattle.gd_office_end.specs.Picking.{AreEmpty}
 use Rattle.gd_office_end.proofs.slot.lists_for.Given as goal
 
 abbrev pub invariant-loop-at : goal.invariant-loop-at
-invariant-loop-at g l = (length l.held.items ≡ l.at) × AreEmpty l.held.items
+invariant-loop-at g l = (length l.holding.items ≡ l.at) × AreEmpty l.holding.items

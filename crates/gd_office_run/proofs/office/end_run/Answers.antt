@@ -1,8 +1,8 @@
 use Rattle.std.proofs.Common.{◌≡◌, ◌∙◌, ◌<◌, ◌≤◌, ◌+◌, ◌++◌, List, length, ℕ, refl, ap, ap₂, arith, rules}
 use Rattle.std.specs.List.{list_all}
 use Rattle.gd_office_end.specs.declared.end.End.{End}
-use Rattle.gd_office_end.specs.Holding.{share_at}
-use Rattle.gd_office_end.proofs.Holding.{end_same}
+use Rattle.gd_office_end.specs.Shares.{share_at}
+use Rattle.gd_office_end.proofs.Shares.{end_same}
 use Rattle.gd_office_run.specs.Runs.{run_rows}
 use Rattle.gd_office_run.specs.Shares.{share_of}
 use Rattle.gd_office_run.specs.RunRows.{ends_rows, is_reconciled}
@@ -12,15 +12,15 @@ use Rattle.gd_office_run.proofs.office.end_run.Goals as goal
 
 pub returns-in_err-ends-clause-err : goal.returns-in_err-ends-clause-err
 returns-in_err-ends-clause-err g c =
-    on_err c.from_residual.result _ (early g.J.Days.days (length c.args.office.now.slots.items) c.args.phases.now c.args.rows.now.items c.args.rows.now.items c.args.held c.requires refl)
+    on_err c.from_residual.result _ (early g.J.Days.days (length c.args.office.now.slots.items) c.args.phases.now c.args.rows.now.items c.args.rows.now.items c.args.holding c.requires refl)
 
 pub returns-in_err-last-clause-err : goal.returns-in_err-last-clause-err
 returns-in_err-last-clause-err g c =
-    on_err c.from_residual-in_err-last.result _ (early g.J.Days.days (length c.args.office.now.slots.items) c.args.phases.now c.args.rows.now.items c.args.rows.now.items c.args.held c.requires refl)
+    on_err c.from_residual-in_err-last.result _ (early g.J.Days.days (length c.args.office.now.slots.items) c.args.phases.now c.args.rows.now.items c.args.rows.now.items c.args.holding c.requires refl)
 
 pub returns-in_err-append-clause-err : goal.returns-in_err-append-clause-err
 returns-in_err-append-clause-err g c =
-    on_err c.from_residual-in_err-append.result _ (early g.J.Days.days (length c.args.office.now.slots.items) c.args.phases.now c.args.rows.now.items c.append.new.self.items c.args.held c.requires c.in_err-append.ensures.items)
+    on_err c.from_residual-in_err-append.result _ (early g.J.Days.days (length c.args.office.now.slots.items) c.args.phases.now c.args.rows.now.items c.append.new.self.items c.args.holding c.requires c.in_err-append.ensures.items)
 
 pub returns-clause-ok : goal.returns-clause-ok
 returns-clause-ok g c =
@@ -30,7 +30,7 @@ returns-clause-ok g c =
       os,
       ends,
       run.1,
-      (long, end_same g.J.Days.days (share_at c.args.held) (share_of os) 0 ends (λ k low high. run.3.1 k (omega (arith, high, long))) c.in_ok-ends.ensures.ends),
+      (long, end_same g.J.Days.days (share_at c.args.holding) (share_of os) 0 ends (λ k low high. run.3.1 k (omega (arith, high, long))) c.in_ok-ends.ensures.ends),
       c.in_ok-append.ensures.items ∙ ap₂ (λ (a b : List Reply). a ++ b) run.2 (c.in_ok-last.ensures ∙ ap (ends_rows 1) c.as_slice.ensures.value),
       c.all_reconciled.ensures ∙ ap (list_all is_reconciled) c.as_slice-2.ensures.value,
     )

@@ -23,7 +23,7 @@ loop-phase-preserved g c =
         os ++ o ∷ [],
         run_at g.J.Days.days slots c.args.phases.now c.loop-phase.phase-index p first lists desks os c.loop-phase-test.true c.phase-item.is run.1 adds.2 number,
         rows_more os first p lists desks c.loop-phase.rows.items c.take_phase.new.rows.items run.2 adds.3,
-        holds_more slots c.loop-phase.held c.take_phase.new.held os first p lists desks run.3 adds.4 adds.5,
+        holds_more slots c.loop-phase.holding c.take_phase.new.holding os first p lists desks run.3 adds.4 adds.5,
         omega (arith, next, number, more),
       );
     }

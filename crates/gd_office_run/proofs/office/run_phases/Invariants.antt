@@ -9,5 +9,5 @@ invariant-loop-phase g l =
     record {
       small : l.first ≤ 2 ^ 62;
       run : (os : List Outcome) × IsRun g.J.Days.days (length l.office.slots.items) (take l.phase-index l.phases) os
-          × (l.rows.items ≡ run_rows os) × Holds (length l.office.slots.items) l.held os × (l.first ≡ 1 + sessions_in os);
+          × (l.rows.items ≡ run_rows os) × Holds (length l.office.slots.items) l.holding os × (l.first ≡ 1 + sessions_in os);
     }

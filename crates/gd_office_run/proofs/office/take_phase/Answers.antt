@@ -10,11 +10,11 @@ rows_of-requires-clause-each g c =
 
 pub returns-clause-ok : goal.returns-clause-ok
 returns-clause-ok g c =
-    let held = c.in_ok-hold.ensures (length c.args.office.now.slots.items) c.requires.held in (
+    let holding = c.in_ok-hold.ensures (length c.args.office.now.slots.items) c.requires.holding in (
       lists_of c.in_ok-given.given.lists.items,
       c.in_ok-given.given.desks.items,
       c.in_ok-given.ensures.gives,
       c.in_ok-append.ensures.items ∙ ap (λ (rows : List Reply). c.args.rows.now.items ++ rows) c.in_ok-told.ensures,
-      held.0,
-      held.1,
+      holding.0,
+      holding.1,
     )

@@ -5,7 +5,7 @@ use Rattle.std.proofs.lemmas.List.{length-map}
 use Rattle.std.proofs.lemmas.List.FromFn.{length-range_with_len}
 use Rattle.gd_office_part.specs.declared.kept.Receipt.{Receipt}
 use Rattle.gd_office_part.specs.Sending.{lists_of}
-use Rattle.gd_office_end.specs.Holding.{Share, share_at, plus}
+use Rattle.gd_office_end.specs.Shares.{Share, share_at, plus}
 use Rattle.gd_office_run.specs.Runs.{counts_of}
 use Rattle.gd_office_run.specs.Shares.{of_desks}
 use Rattle.gd_office_run.proofs.Shares.{plus_assoc, sessions_are}
@@ -25,7 +25,7 @@ returns g c slots of =
       λ k below.
           let desks = of_desks 0 given.desks.items k in
           b.1 k below ∙ ap (λ (s : Share). plus s desks) (a.1 k below)
-          ∙ ap (λ (s : Share). plus (plus (share_at c.args.held.now k) s) desks)
+          ∙ ap (λ (s : Share). plus (plus (share_at c.args.holding.now k) s) desks)
           (sessions_are k c.as_slice.result.now c.args.phase.now.sessions.items _ (counts_of lists) lists c.in_ok-numbers.numbers.items _ c.as_slice.ensures.value c.requires.counted numbers)
-          ∙ plus_assoc (share_at c.args.held.now k) _ desks,
+          ∙ plus_assoc (share_at c.args.holding.now k) _ desks,
     )

@@ -1,5 +1,5 @@
 use Rattle.gd_rules.specs.Schedule.{class_total}
-use Rattle.gd_schedule.proofs.Compared.{by_class}
+use Rattle.gd_schedule.proofs.RowOrder.{by_class}
 use Rattle.gd_schedule.proofs.order.compare_totals.Goals as goal
 
 pub returns : goal.returns

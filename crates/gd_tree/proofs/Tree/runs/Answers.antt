@@ -1,6 +1,6 @@
 use Rattle.std.proofs.Common.{◌≡◌, arith, length, refl, sym, ◌∙◌, not, true, false, Bool, IsTrue}
 use Rattle.gd_tree.specs.Grown.{route_of, has_route}
-use Rattle.gd_tree.proofs.Along.{routes}
+use Rattle.gd_tree.proofs.Directions.{routes}
 use Rattle.gd_tree.proofs.Lifts.{step_same, step_none, same_place}
 use Rattle.gd_tree.proofs.Tree.runs.Goals as goal
 

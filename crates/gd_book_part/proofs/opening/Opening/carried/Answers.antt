@@ -1,7 +1,7 @@
 use Rattle.std.proofs.Common.{sym, ap, ◌∙◌}
 use Rattle.std.specs.Option.{unwrap_or}
 use Rattle.gd_machine.specs.Day.{Day, carried}
-use Rattle.gd_book_part.proofs.Carried.{find_lookup}
+use Rattle.gd_book_part.proofs.CarriedQuantities.{find_lookup}
 use Rattle.gd_book_part.proofs.opening.Opening.carried.Goals as goal
 
 pub returns : goal.returns

@@ -1,5 +1,5 @@
 use Rattle.std.proofs.Common.{◌+◌, ◌-◌, length, set, ap, ◌∙◌}
-use Rattle.gd_book_part.proofs.Over.{publish_more}
+use Rattle.gd_book_part.proofs.CycleEnds.{publish_more}
 use Rattle.gd_book_part.proofs.tables.Tables.close_cycle.Goals as goal
 
 pub returns : goal.returns

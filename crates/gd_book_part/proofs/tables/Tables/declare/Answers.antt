@@ -1,4 +1,4 @@
-use Rattle.gd_book_part.proofs.More.{declare_more}
+use Rattle.gd_book_part.proofs.NextEvent.{declare_more}
 use Rattle.gd_book_part.proofs.tables.Tables.declare.Goals as goal
 
 pub returns : goal.returns

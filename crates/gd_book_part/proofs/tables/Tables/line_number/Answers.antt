@@ -1,7 +1,7 @@
 use Rattle.std.proofs.Common.{List, sym, ap, ◌∙◌}
 use Rattle.std.specs.List.{position_or_len}
 use Rattle.gd_rules.specs.Lines.{Nomination, same_key, lines_of}
-use Rattle.gd_book_part.proofs.Committed.{absent_number}
+use Rattle.gd_book_part.proofs.Commitments.{absent_number}
 use Rattle.gd_book_part.proofs.tables.Tables.line_number.Goals as goal
 
 pub returns-in-None : goal.returns-in-None

@@ -3,8 +3,8 @@ use Rattle.std.proofs.lemmas.Bool.{false≢true}
 use Rattle.gd_system.specs.Pipeline.{Pipeline}
 use Rattle.gd_question.specs.Rows.{AreOwn}
 use Rattle.gd_question.proofs.Limits.{in_force-own}
-use Rattle.gd_contracts.specs.Held.{Held}
-use Rattle.gd_book_part.specs.Confirmed.{Tells, nothing}
+use Rattle.gd_contracts.specs.Holdings.{Holdings}
+use Rattle.gd_book_part.specs.LineConfirmations.{Tells, nothing}
 use Rattle.gd_book_part.specs.declared.confirmations.Confirmation.{Confirmation}
 use Rattle.gd_book_part.proofs.tables.Tables.new.Goals as goal
 
@@ -17,8 +17,8 @@ empty_tells entries e line = subst (λ es. Tells [] line (get_or es line nothing
 
 pub returns : goal.returns
 returns c =
-    let system : c.system.result.now ≡ c.args.opening.now.held.pipeline = c.system.ensures ∙ ap (λ (h : Held). h.pipeline) c.contracts.ensures in
-    let own : AreOwn c.args.opening.now.held.pipeline c.in_ok-capacities.capacities.items = subst (λ (p : Pipeline). AreOwn p c.in_ok-capacities.capacities.items) system c.in_ok-capacities.ensures in
+    let system : c.system.result.now ≡ c.args.opening.now.holdings.pipeline = c.system.ensures ∙ ap (λ (h : Holdings). h.pipeline) c.contracts.ensures in
+    let own : AreOwn c.args.opening.now.holdings.pipeline c.in_ok-capacities.capacities.items = subst (λ (p : Pipeline). AreOwn p c.in_ok-capacities.capacities.items) system c.in_ok-capacities.ensures in
     record {
       stamp = c.beginning.ensures;
       cycle = refl;
@@ -29,7 +29,7 @@ returns c =
       sized = ap length c.new-2.ensures.items;
       confirmed = empty_tells c.new-2.result.items c.new-2.ensures.items;
       limited = own.sized;
-      in_force = in_force-own c.args.opening.now.held.pipeline c.in_ok-capacities.capacities.items own;
+      in_force = in_force-own c.args.opening.now.holdings.pipeline c.in_ok-capacities.capacities.items own;
       in_effect = λ cycle low high. absurd (omega (arith, low, high));
       five = refl;
       counted = refl;

@@ -1,6 +1,6 @@
 use Rattle.std.proofs.Common.{◌≤◌, List, All, sym, ap, subst, ◌∙◌}
 use Rattle.gd_rules.specs.Lines.{Nomination, of_line, last_quantity}
-use Rattle.gd_book_part.proofs.Committed.{last_found, absent_key}
+use Rattle.gd_book_part.proofs.Commitments.{last_found, absent_key}
 use Rattle.gd_book_part.proofs.tables.Tables.nominated_last.Goals as goal
 
 pub returns-in-Some : goal.returns-in-Some

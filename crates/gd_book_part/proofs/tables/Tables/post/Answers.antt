@@ -1,5 +1,5 @@
 use Rattle.std.proofs.Common.{refl, arith}
-use Rattle.gd_book_part.proofs.Quiet.{post_more, post_within}
+use Rattle.gd_book_part.proofs.QuietEvents.{post_more, post_within}
 use Rattle.gd_book_part.proofs.tables.Tables.post.Goals as goal
 
 pub index_mut-requires : goal.index_mut-requires

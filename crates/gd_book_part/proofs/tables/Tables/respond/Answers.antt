@@ -4,8 +4,8 @@ use Rattle.std.proofs.lemmas.List.{get_or_default}
 use Rattle.gd_units.specs.declared.service.End.TheVariants.{Origin, Dest}
 use Rattle.gd_machine.specs.History.{same_end}
 use Rattle.gd_book_part.specs.declared.confirmations.Confirmation.{Confirmation}
-use Rattle.gd_book_part.specs.Confirmed.{nothing}
-use Rattle.gd_book_part.proofs.Quiet.{respond_more, now_of}
+use Rattle.gd_book_part.specs.LineConfirmations.{nothing}
+use Rattle.gd_book_part.proofs.QuietEvents.{respond_more, now_of}
 use Rattle.gd_book_part.proofs.tables.Tables.respond.Goals as goal
 
 pub returns : goal.returns

@@ -1,5 +1,5 @@
 use Rattle.std.proofs.Common.{◌-◌, set, ap, ◌∙◌}
-use Rattle.gd_book_part.proofs.Over.{skip_more}
+use Rattle.gd_book_part.proofs.CycleEnds.{skip_more}
 use Rattle.gd_book_part.proofs.tables.Tables.skip.Goals as goal
 
 pub returns : goal.returns

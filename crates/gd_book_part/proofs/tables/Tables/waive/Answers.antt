@@ -1,8 +1,8 @@
 use Rattle.std.proofs.Common.{◌≡◌, ◌<◌, true, List, length, get_or, set, ap, ap₂, subst, ◌∙◌}
 use Rattle.std.proofs.lemmas.List.{get_or_default}
 use Rattle.gd_book_part.specs.declared.confirmations.Confirmation.{Confirmation}
-use Rattle.gd_book_part.specs.Confirmed.{nothing}
-use Rattle.gd_book_part.proofs.Quiet.{waive_more, now_of}
+use Rattle.gd_book_part.specs.LineConfirmations.{nothing}
+use Rattle.gd_book_part.proofs.QuietEvents.{waive_more, now_of}
 use Rattle.gd_book_part.proofs.tables.Tables.waive.Goals as goal
 
 pub returns : goal.returns

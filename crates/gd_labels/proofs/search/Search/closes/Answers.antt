@@ -3,7 +3,7 @@ use Rattle.std.proofs.lemmas.List.{get_or_default}
 use Rattle.std.proofs.lemmas.Bool.Decides.{nat_tests}
 use Rattle.gd_labels.specs.Links.{node_at}
 use Rattle.gd_labels.proofs.Trails.{closed_gains, one_back, avoids_back, avoids_root}
-use Rattle.gd_labels.proofs.Apart.{apart_push, apart_start}
+use Rattle.gd_labels.proofs.SeparateLinks.{apart_push, apart_start}
 use Rattle.gd_labels.proofs.search.Search.closes.Goals as goal
 use Rattle.gd_labels.proofs.search.Search.closes.Goals.{then-loop-event-test+else-index-end, else-loop-event-test}
 

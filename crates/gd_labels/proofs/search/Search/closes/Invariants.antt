@@ -2,7 +2,7 @@ use Rattle.std.proofs.Common.{◌≡◌, ◌<◌, length, map, get_or, List, ℕ
 use Rattle.gd_labels.specs.Links.{node_at, Trail, gain_of}
 use Rattle.gd_labels.specs.Events.{Chain, NotIn}
 use Rattle.gd_labels.specs.Searches.{reached, IsSearch}
-use Rattle.gd_labels.proofs.Apart.{IsApart}
+use Rattle.gd_labels.proofs.SeparateLinks.{IsApart}
 use Rattle.gd_labels.proofs.search.Search.closes.Given as goal
 
 -- The links taken lead from the event's node to the end of link i, to no node twice, and with the event's value they gain what link i reaches.

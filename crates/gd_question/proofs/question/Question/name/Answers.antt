@@ -1,5 +1,5 @@
 use Rattle.std.proofs.Common.{◌<◌, subst}
-use Rattle.gd_question.proofs.Asked.{element_count_is}
+use Rattle.gd_question.proofs.QuestionInside.{element_count_is}
 use Rattle.gd_question.proofs.question.Question.name.Goals as goal
 
 pub name-requires : goal.name-requires

@@ -1,7 +1,7 @@
 use Rattle.std.proofs.Common.{rules, ◌<◌, ◌^◌, ap, sym, ◌∙◌, arith, List, ℕ}
 use Rattle.std.specs.Prelude.{◌==◌}
 use Rattle.std.specs.List.{count_by}
-use Rattle.gd_question.proofs.Asked.{route_is, element_count_is}
+use Rattle.gd_question.proofs.QuestionInside.{route_is, element_count_is}
 use Rattle.gd_question.proofs.Limits.{length-elements}
 use Rattle.gd_question.proofs.question.Question.passes.Goals as goal
 

@@ -2,7 +2,7 @@ use Rattle.std.proofs.Common.{subst, map}
 use Rattle.gd_question.specs.Posing.{Posed}
 use Rattle.gd_question.specs.Placing.{IsPlaced}
 use Rattle.gd_question.specs.Rows.{line_of}
-use Rattle.gd_question.proofs.Placed.{is_placed}
+use Rattle.gd_question.proofs.ElementPlaces.{is_placed}
 use Rattle.gd_question.proofs.question.Question.placed.Goals as goal
 
 pub returns : goal.returns

@@ -4,7 +4,7 @@ use Rattle.std.proofs.lemmas.List.{length-append, length-map}
 use Rattle.gd_question.specs.Posing.{Posed}
 use Rattle.gd_question.specs.Rows.{IsRow, line_of}
 use Rattle.gd_question.specs.declared.question.Row.{Row}
-use Rattle.gd_question.proofs.Asked.{rows_more}
+use Rattle.gd_question.proofs.QuestionInside.{rows_more}
 use Rattle.gd_question.proofs.Sound.{Each}
 use Rattle.gd_question.proofs.question.Question.push_row.Goals as goal
 

@@ -1,5 +1,5 @@
 use Rattle.std.proofs.Common.{arith, refl}
-use Rattle.gd_question.proofs.Asked.{unknown_is, is_pool, has_limit, changed_is}
+use Rattle.gd_question.proofs.QuestionInside.{unknown_is, is_pool, has_limit, changed_is}
 use Rattle.gd_question.proofs.question.Question.set_capacity.Goals as goal
 
 pub returns-then-element-element_count-clause-refused : goal.returns-then-element-element_count-clause-refused

@@ -1,6 +1,6 @@
 use Rattle.std.proofs.Common.{◌∙◌, length, ap, refl, inl, arith}
 use Rattle.csv.specs.Records.{fields_of}
-use Rattle.gd_text_part.proofs.RecordsTaken.{takes, ends}
+use Rattle.gd_text_part.proofs.RecordReads.{takes, ends}
 use Rattle.gd_text_part.proofs.records.Records.advance.Goals as goal
 
 pub returns-in-Ok-true-clause-fault : goal.returns-in-Ok-true-clause-fault
