@@ -1,5 +1,5 @@
 -- What the sessions of rows are sent and count.
-use Rattle.std.proofs.Common.{◌≡◌, ◌∙◌, ℕ, ◌+◌, List, [], ◌∷◌, ◌++◌, length, map, take, refl, sym, ap, ap₂, arith}
+use Rattle.std.proofs.Common.{◌≡◌, ◌∙◌, ℕ, List, [], ◌∷◌, ◌++◌, length, map, take, refl, sym, ap, ap₂, arith}
 use Rattle.std.specs.List.{zip}
 use Rattle.std.proofs.lemmas.List.{length-map}
 use Rattle.std.proofs.Math.Seq.{take-append_seam}
@@ -9,7 +9,7 @@ use Rattle.gd_office_part.specs.declared.kept.Receipt.{Receipt}
 use Rattle.gd_office_part.specs.Seen.{Session}
 use Rattle.gd_office_part.specs.declared.threads.SessionRows.{SessionRows}
 use Rattle.gd_office_part.specs.Counting.{none, counted_all}
-use Rattle.gd_office_part.specs.Sending.{events_of, events_by, kept_of, AreSent, AreCounted}
+use Rattle.gd_office_part.specs.Sending.{events_by, kept_of, AreSent, AreCounted}
 use Rattle.gd_office_run.specs.Runs.{opened, asked, AreReceipts, counts_of}
 
 events_asked : (sessions : List Session) (rows : List SessionRows) → map opened sessions ≡ map asked rows

@@ -4,7 +4,7 @@ use Rattle.std.specs.List.{All}
 use Rattle.gd_desk.specs.declared.desk.Desk.{Desk}
 use Rattle.gd_desk.specs.Desks.{ClosesFor, IsClosed, IsDesk, EachFrom}
 use Rattle.gd_machine.specs.declared.event.Event.{Event}
-use Rattle.gd_machine.specs.declared.event.Event.TheVariants.{Publish, Declare}
+use Rattle.gd_machine.specs.declared.event.Event.TheVariants.{Declare}
 use Rattle.gd_machine.specs.Day.{Day}
 use Rattle.gd_office_part.specs.declared.kept.Receipt.{Receipt}
 use Rattle.gd_office_replies.specs.Desks.{HasShape, IsEndShaped}

@@ -1,5 +1,5 @@
 -- The shares of slots in one phase more.
-use Rattle.std.proofs.Common.{◌≡◌, ◌∙◌, ℕ, ◌+◌, ◌<◌, List, [], ◌∷◌, ◌++◌, refl, sym, ap, append_assoc}
+use Rattle.std.proofs.Common.{◌≡◌, ◌∙◌, ℕ, ◌+◌, List, [], ◌∷◌, ◌++◌, sym, ap, append_assoc}
 use Rattle.std.proofs.lemmas.List.{append-nil}
 use Rattle.gd_desk.specs.declared.desk.Desk.{Desk}
 use Rattle.gd_office_part.specs.declared.kept.Receipt.{Receipt}
@@ -7,7 +7,7 @@ use Rattle.gd_office_part.specs.declared.numbers.Numbers.{Numbers}
 use Rattle.gd_office_part.specs.declared.threads.Phase.{Phase}
 use Rattle.gd_office_part.specs.declared.threads.SessionRows.{SessionRows}
 use Rattle.gd_office_end.specs.declared.holding.Holding.{Holding}
-use Rattle.gd_office_end.specs.Shares.{Share, nothing, plus, share_at, of_sessions, of_desk, IsOf, Gains}
+use Rattle.gd_office_end.specs.Shares.{Share, nothing, plus, of_sessions, of_desk, IsOf, Gains}
 use Rattle.gd_office_end.proofs.Shares.{share_is}
 use Rattle.gd_office_run.specs.Runs.{Outcome}
 use Rattle.gd_office_run.specs.Shares.{of_desks, share_in, share_of, Holds}

@@ -1,3 +1,4 @@
 pub mod Runs
 pub mod Shares
 pub mod RunRows
+pub mod Faults

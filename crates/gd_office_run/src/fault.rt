@@ -1,5 +1,9 @@
 //! Why a run ended early.
 
+ghost use Rattle.std.specs.Prelude.{◌≡◌};
+ghost use Rattle.gd_office_run.specs.Faults.{fault_of_sending, fault_of_desk};
+ghost use Rattle.gd_office_run.specs.declared.fault.RunFault.TheVariants.{OutOfMemory};
+
 use gd_desk::DeskFault;
 use gd_office_part::SendFault;
 use gd_replies::Reply;
@@ -17,12 +21,16 @@ pub enum RunFault {
 }
 
 impl From<AllocError> for RunFault {
+    ghost from_gives = { λ _ f. f ≡ OutOfMemory };
+
     fn from(_e: AllocError) -> RunFault {
         RunFault::OutOfMemory
     }
 }
 
 impl From<SendFault> for RunFault {
+    ghost from_gives = { λ why f. f ≡ fault_of_sending why };
+
     fn from(fault: SendFault) -> RunFault {
         match fault {
             SendFault::OtherSlot => RunFault::TooMany,
@@ -33,6 +41,8 @@ impl From<SendFault> for RunFault {
 }
 
 impl From<DeskFault> for RunFault {
+    ghost from_gives = { λ why f. f ≡ fault_of_desk why };
+
     fn from(fault: DeskFault) -> RunFault {
         match fault {
             DeskFault::NoThread => RunFault::NoThread,

@@ -1,4 +1,4 @@
-use Rattle.std.proofs.Common.{◌≡◌, ◌+◌, [], ◌∷◌, arith, rules}
+use Rattle.std.proofs.Common.{◌≡◌, [], ◌∷◌, arith, rules}
 use Rattle.std.proofs.lemmas.List.{nil_from_length}
 use Rattle.std.specs.Vec.Iter.{into_iter_items}
 use Rattle.gd_office_end.specs.Shares.{share_at, plus}

@@ -1,4 +1,4 @@
-use Rattle.std.proofs.Common.{◌≡◌, [], refl, length}
+use Rattle.std.proofs.Common.{[], refl}
 use Rattle.gd_office_run.proofs.Runs.{on_err}
 use Rattle.gd_office_run.proofs.office.run.Goals as goal
 

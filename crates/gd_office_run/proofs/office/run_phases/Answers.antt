@@ -1,6 +1,6 @@
-use Rattle.std.proofs.Common.{◌≡◌, ◌∙◌, ◌+◌, ◌++◌, [], ◌∷◌, List, arith, length}
+use Rattle.std.proofs.Common.{◌∙◌, ◌++◌, [], ◌∷◌, arith, length}
 use Rattle.gd_office_run.specs.Runs.{Outcome}
-use Rattle.gd_office_run.proofs.Runs.{on_err, run_at, rows_more, sessions_more, sessions_in}
+use Rattle.gd_office_run.proofs.Runs.{on_err, run_at, rows_more, sessions_more}
 use Rattle.gd_office_run.proofs.Shares.{holds_more}
 use Rattle.gd_office_run.proofs.office.run_phases.Goals as goal
 

@@ -1,4 +1,4 @@
-use Rattle.std.proofs.Common.{◌≡◌, ◌∙◌, ◌++◌, List, length, ap}
+use Rattle.std.proofs.Common.{◌∙◌, ◌++◌, List, length, ap}
 use Rattle.gd_office_part.specs.Sending.{lists_of}
 use Rattle.gd_replies.specs.declared.reply.Reply.{Reply}
 use Rattle.gd_office_run.proofs.Shapes.{shaped}

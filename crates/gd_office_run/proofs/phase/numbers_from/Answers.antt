@@ -1,4 +1,4 @@
-use Rattle.std.proofs.Common.{◌≡◌, ◌∙◌, ◌+◌, ◌++◌, List, ℕ, [], ◌∷◌, ap, sym}
+use Rattle.std.proofs.Common.{◌∙◌, ◌+◌, ◌++◌, List, ℕ, [], ◌∷◌, ap, sym}
 use Rattle.gd_office_run.proofs.Runs.{range_more}
 use Rattle.gd_office_run.proofs.phase.numbers_from.Goals as goal
 

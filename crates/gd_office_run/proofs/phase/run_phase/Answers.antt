@@ -1,4 +1,4 @@
-use Rattle.std.proofs.Common.{◌≡◌, ◌∙◌, List, map, ap, rules}
+use Rattle.std.proofs.Common.{◌∙◌, map, ap, rules}
 use Rattle.gd_office_part.specs.Seen.{Session}
 use Rattle.gd_office_part.specs.Sending.{lists_of}
 use Rattle.gd_office_run.proofs.Opening.{receipts_of, counts_are, as_many, written}
