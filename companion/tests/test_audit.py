@@ -44,7 +44,7 @@ class Auditing(unittest.TestCase):
 
     def call(self, *words, ends=0, **environment):
         environment = {"GASDAY": str(self.fake), "KEPT": str(self.folder), "ENDS": str(ends), **environment}
-        done = subprocess.run([AUDIT, *words], cwd=self.folder, capture_output=True, timeout=60,
+        done = subprocess.run([AUDIT, *words], cwd=self.folder, capture_output=True, timeout=600,
                               env={**os.environ, **environment})
         return done.stdout.decode(), done.stderr.decode(), done.returncode
 

@@ -18,7 +18,7 @@ class Completing(unittest.TestCase):
             for name in FILES:
                 Path(folder, name).touch()
             done = subprocess.run(["bash", "-c", SCRIPT, "bash", COMPLETIONS, "gasday", *words], cwd=folder,
-                                  capture_output=True, text=True, timeout=60)
+                                  capture_output=True, text=True, timeout=600)
         self.assertEqual((done.stderr, done.returncode), ("", 0))
         return sorted(filter(None, done.stdout.split("\n")))
 
@@ -66,7 +66,7 @@ class Completing(unittest.TestCase):
 
     def test_it_is_registered_for_gasday(self):
         done = subprocess.run(["bash", "-c", 'source "$1"; complete -p gasday', "bash", COMPLETIONS],
-                              capture_output=True, text=True, timeout=60)
+                              capture_output=True, text=True, timeout=600)
         self.assertEqual(done.stdout, "complete -F _gasday gasday\n")
 
 

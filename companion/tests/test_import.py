@@ -21,7 +21,7 @@ line,R1,D1,4,0,50,,
 def run(data, *words):
     """Output, standard error and exit status, with the bytes or the text of standard input."""
     data = data.encode() if isinstance(data, str) else data
-    done = subprocess.run([sys.executable, str(PROGRAM), *words], input=data, capture_output=True, timeout=60)
+    done = subprocess.run([sys.executable, str(PROGRAM), *words], input=data, capture_output=True, timeout=600)
     return done.stdout, done.stderr.decode(), done.returncode
 
 

@@ -4,8 +4,8 @@ use Rattle.std.specs.Option.{IsSome}
 use Rattle.jiff.specs.Words.{IsYmd, read_whole}
 use Rattle.jiff.specs.Placed.{IsPosixZone}
 use Rattle.jiff.specs.Types.{Date, TimeZone}
-use Rattle.gd_calendar.specs.Range.{IsGasDay}
-use Rattle.gd_calendar.specs.Zone.{IsCalendarOf, IsBadZone}
+use Rattle.gd_zone.specs.Range.{IsGasDay}
+use Rattle.gd_zone.specs.Zone.{IsCalendarOf, IsBadZone}
 use Rattle.gd_rules.specs.Limits.{classes}
 use Rattle.gd_rules.specs.Schedule.{IsAllowed}
 use Rattle.gd_rules.specs.Spread.{IsBest}

@@ -7,10 +7,11 @@ ghost use Rattle.gasday_part.specs.Answers as spec;
 ghost use Rattle.gasday_part.specs.AnswerSeen.{answer_seen};
 
 use crate::answer::{Answer, of_fault, of_one};
-use gd_calendar::{Calendar, CalendarFault, GasDay};
+use gd_calendar::Calendar;
 use gd_replies::{Reply, calendar_replies};
 use gd_text::day_of;
 use gd_text_part::{CivilDate, Row, ZoneText};
+use gd_zone::{CalendarFault, GasDay};
 use jiff::civil::Date;
 use jiff::tz::TimeZone;
 use std::alloc::{AllocError, Global};
@@ -61,7 +62,7 @@ pub fn calendar_of(alloc: Global, date: CivilDate, zone: &ZoneText) -> Result<Ca
     let Ok(zone) = TimeZone::posix(zone.as_str()) else {
         return Err(DayFault::BadZone);
     };
-    match Calendar::new(alloc, day, &zone) {
+    match day.calendar(alloc, &zone) {
         Ok(calendar) => Ok(calendar),
         Err(CalendarFault::BadZone) => Err(DayFault::BadZone),
         Err(CalendarFault::OutOfMemory) => Err(DayFault::OutOfMemory),

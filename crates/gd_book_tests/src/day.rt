@@ -1,11 +1,12 @@
 //! A gas day on one segment S1 from A to B of 100, with a receipt point R1 at A and a delivery point D1 at B.
 
 use gd_book::Book;
-use gd_calendar::{Calendar, GasDay};
+use gd_calendar::Calendar;
 use gd_contracts::{Contract, Contracts, Service};
 use gd_lines::LineKey;
 use gd_system::{Kind, System, SystemBuilder};
 use gd_units::{Band, CycleNo, Dth, Moment, Name, Round};
+use gd_zone::GasDay;
 use jiff::civil::date;
 use jiff::tz::TimeZone;
 use std::alloc::Global;
@@ -120,7 +121,7 @@ fn gas_day(rt: &impl Abort) -> GasDay {
 
 fn calendar(rt: &impl Abort, alloc: Global) -> Calendar {
     let zone = made(rt, TimeZone::posix("CST6CDT,M3.2.0,M11.1.0"));
-    made(rt, Calendar::new(alloc, gas_day(rt), &zone))
+    made(rt, gas_day(rt).calendar(alloc, &zone))
 }
 
 /// 80 of a line of FIRM in package C, the day before.

@@ -1,11 +1,12 @@
 //! A book on one segment S1 from A to B, with a receipt point R1 at A and a delivery point D1 at B.
 
 use gd_book::{Book, Refusal, Reply};
-use gd_calendar::{Calendar, GasDay};
+use gd_calendar::Calendar;
 use gd_contracts::{Contract, Contracts, Service};
 use gd_lines::LineKey;
 use gd_system::{Kind, System, SystemBuilder};
 use gd_units::{Dth, Moment, Name};
+use gd_zone::GasDay;
 use jiff::civil::date;
 use jiff::tz::TimeZone;
 use std::alloc::{AllocError, Global};
@@ -143,7 +144,7 @@ fn contracts(alloc: Global, capacity: u64) -> Result<Contracts, Fault> {
 fn calendar(alloc: Global) -> Result<Calendar, Fault> {
     let day = GasDay::new(date(2026, 3, 8)).map_err(|_| Fault::Unmade)?;
     let zone = TimeZone::posix("CST6CDT,M3.2.0,M11.1.0").map_err(|_| Fault::Unmade)?;
-    let calendar = Calendar::new(alloc, day, &zone);
+    let calendar = day.calendar(alloc, &zone);
     drop(zone);
     calendar.map_err(|_| Fault::Unmade)
 }

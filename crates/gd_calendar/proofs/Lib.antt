@@ -1,4 +1,3 @@
-pub mod Moments
 pub mod Places
 pub mod Calendars
 pub mod Examples

@@ -1,22 +1,14 @@
 //! Calendars: when the marks of a gas day's cycles fall due.
 
-ghost use Rattle.std.specs.Prelude.{◌≡◌, ℕ, ◌+◌, ◌*◌, ◌<◌, ◌≤◌, ◌↔◌, IsTrue, Err, IfOk, Some, length};
-ghost use Rattle.jiff.specs.Words.{plain_zone};
+ghost use Rattle.std.specs.Prelude.{◌≡◌, ℕ, ◌+◌, ◌*◌, ◌<◌, ◌≤◌, ◌↔◌, IsTrue, IfOk, length};
 ghost use Rattle.gd_rules.specs.GasDay as gas_day;
 ghost use Rattle.gd_rules.specs.GasDay.Mark.{Received, Confirmed, Effective};
 ghost use Rattle.gd_calendar.specs.Calendar as spec;
 ghost use Rattle.gd_calendar.specs.Calendar.{due, received_times, IsCalendar};
-ghost use Rattle.gd_calendar.specs.Zone.{IsCalendarOf, IsBadZone};
 ghost use Rattle.gd_calendar.specs.Mark.{mark_of};
-ghost use Rattle.gd_calendar.specs.Names.{calendar_fault_name};
-ghost use Rattle.gd_calendar.specs.declared.calendar.CalendarFault.TheVariants.{OutOfMemory};
 
-use crate::GasDay;
-use crate::clock::moments_of;
 use gd_units::{CycleNo, Moment};
-use jiff::tz::TimeZone;
 use std::alloc::{AllocError, Global};
-use std::fmt;
 use std::marker::Model;
 
 /// What falls due in a cycle (NAESB WGQ 1.3.2).
@@ -34,36 +26,6 @@ pub enum Mark {
     Schedules,
     /// The scheduled quantities begin to flow.
     Effective,
-}
-
-/// Why a zone gives a gas day no calendar. It is printed by its name.
-#[derive(Clone, Copy, Debug, PartialEq, Eq, Drop)]
-pub enum CalendarFault {
-    /// A civil time of the gas day is ambiguous or missing in the zone or lies outside what a `Moment` holds, or the
-    /// moments do not rise in the order of the clock, or the Intraday cycles do not take effect 5, 9 and 13 whole hours
-    /// after the start of the gas day, or it has not 23, 24 or 25 whole hours.
-    BadZone,
-    /// Memory was refused.
-    OutOfMemory,
-}
-
-impl From<AllocError> for CalendarFault {
-    ghost from_gives = { λ _ e. e ≡ OutOfMemory };
-
-    fn from(_e: AllocError) -> CalendarFault {
-        CalendarFault::OutOfMemory
-    }
-}
-
-impl fmt::Display for CalendarFault {
-    ghost output = { λ f. Some (calendar_fault_name f) };
-
-    fn fmt<W: fmt::Write>(&self, f: &mut fmt::Formatter<W>) -> fmt::Result {
-        match self {
-            CalendarFault::BadZone => f.write_str("BadZone"),
-            CalendarFault::OutOfMemory => f.write_str("OutOfMemory"),
-        }
-    }
 }
 
 /// When the marks of a gas day's five cycles fall due (NAESB WGQ 1.3.2).
@@ -94,6 +56,9 @@ const PLACES: [[usize; 6]; CycleNo::COUNT] = [
     [17, 18, 19, 20, 21, 22],
     [23, 24, 25, 26, 27, 27],
 ];
+
+/// How many civil times a gas day has.
+const TIMES: usize = 29;
 
 /// Where the gas day starts.
 const START: usize = 10;
@@ -199,19 +164,23 @@ fn is_calendar(moments: &[Moment]) -> bool
 }
 
 impl Calendar {
-    /// The calendar that the zone gives the gas day.
-    pub fn new(alloc: Global, day: GasDay, zone: &TimeZone<'_>) -> Result<Calendar, CalendarFault>
-        ensures ok { IfOk result (IsCalendarOf (plain_zone zone.now) day) }
-        ensures bad_zone { (result ≡ Err CalendarFault.BadZone)
-            ↔ IsBadZone (plain_zone zone.now) day }
+    /// Whether these are the moments of a calendar: 29 that rise, by which the Intraday cycles take effect 5, 9 and 13 whole
+    /// hours after the start of the gas day, and which has 23, 24 or 25 whole hours.
+    pub fn is_of(moments: &[Moment]) -> bool
+        ensures { IsTrue result ↔ IsCalendar moments.now }
     {
-        let Some(moments) = moments_of(day.date(), zone) else {
-            return Err(CalendarFault::BadZone);
-        };
-        if !is_calendar(&moments) {
-            return Err(CalendarFault::BadZone);
+        if moments.len() != TIMES {
+            return false;
         }
-        let moments = Vec::from_slice(alloc, &moments)?;
+        is_calendar(moments)
+    }
+
+    /// The calendar of these moments. The only error is want of memory.
+    pub fn of(alloc: Global, moments: &[Moment]) -> Result<Calendar, AllocError>
+        requires { IsCalendar moments.now }
+        ensures { IfOk result (λ calendar. calendar ≡ moments.now) }
+    {
+        let moments = Vec::from_slice(alloc, moments)?;
         Ok(Calendar { moments })
     }
 

@@ -1,11 +1,8 @@
-//! The gas day by the clock of its time zone: the moments of its cycles (NAESB WGQ 1.3.1 and 1.3.2).
+//! The calendar of a gas day: the moments of its cycles, and the cycle that a moment belongs to (NAESB WGQ 1.3.1 and 1.3.2).
 //!
-//! Only `Calendar::new` and `Calendar::try_clone` take memory.
+//! Only `Calendar::of` and `Calendar::try_clone` take memory.
 #![tactic(auto)]
 
 mod calendar;
-mod clock;
-mod gas_day;
 
-pub use calendar::{Calendar, CalendarFault, Mark};
-pub use gas_day::{GasDay, GasDayFault};
+pub use calendar::{Calendar, Mark};

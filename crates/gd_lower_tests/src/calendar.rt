@@ -1,7 +1,8 @@
 //! The gas day 2026-03-08 by the clock of CST and CDT, which changes on that day.
 
-use gd_calendar::{Calendar, GasDay};
+use gd_calendar::Calendar;
 use gd_units::{CycleNo, Moment};
+use gd_zone::GasDay;
 use jiff::civil::date;
 use jiff::tz::TimeZone;
 use std::alloc::Global;
@@ -11,7 +12,7 @@ use std::test::Fail;
 fn worked_day(alloc: Global) -> Result<Calendar, Fail> {
     let day = GasDay::new(date(2026, 3, 8))?;
     let zone = TimeZone::posix("CST6CDT,M3.2.0,M11.1.0")?;
-    let calendar = Calendar::new(alloc, day, &zone)?;
+    let calendar = day.calendar(alloc, &zone)?;
     Ok(calendar)
 }
 

@@ -135,7 +135,7 @@ pub(crate) fn near_place<'r>(
 /// Where the block of an office begins that goes on behind these rows: behind the last row that heads a gas day or carries a
 /// line into it. Any other text is one block.
 pub(crate) fn block_start(form: Option<Form>, rows: &[Row]) -> usize {
-    if form != Some(Form::Office) {
+    if !matches!(form, Some(Form::Office)) {
         return 0;
     }
     let last = rows

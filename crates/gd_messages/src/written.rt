@@ -187,7 +187,7 @@ fn told_of_party(spot: Spot, field: Field, written: &[u8]) -> Result<String, All
 
 /// Whether a `day` row has to name a book.
 fn needs_book(text: Text) -> bool {
-    text.form != Some(Form::Calendar)
+    !matches!(text.form, Some(Form::Calendar))
 }
 
 /// What is told of field `k` of a record of this kind.

@@ -3,11 +3,12 @@
 
 use crate::types::Office;
 use gd_book::Book;
-use gd_calendar::{Calendar, GasDay};
+use gd_calendar::Calendar;
 use gd_contracts::{Contract, Contracts, Service};
 use gd_lines::LineKey;
 use gd_system::{Kind, System, SystemBuilder};
 use gd_units::{Band, Dth, Moment, Name};
+use gd_zone::GasDay;
 use jiff::civil::date;
 use jiff::tz::TimeZone;
 use std::alloc::Global;
@@ -96,9 +97,7 @@ fn calendar(rt: &impl Abort, alloc: Global) -> Calendar {
     let day = GasDay::new(date(2026, 3, 8)).ok().expect(rt, "a gas day");
     let zone = TimeZone::posix("CST6CDT,M3.2.0,M11.1.0");
     let zone = zone.ok().expect(rt, "a zone");
-    Calendar::new(alloc, day, &zone)
-        .ok()
-        .expect(rt, "a calendar")
+    day.calendar(alloc, &zone).ok().expect(rt, "a calendar")
 }
 
 /// A book with both contracts on the gas day 2026-03-08, and nothing carried over.

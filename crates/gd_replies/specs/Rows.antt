@@ -6,6 +6,7 @@ use Rattle.gd_machine.specs.Names.{refusal_name}
 use Rattle.gd_text_part.specs.Causes.{fault_row, fault_name, fault_detail}
 use Rattle.gd_replies.specs.Calls.{call_name, refusal_detail}
 use Rattle.gd_replies.specs.Lines.{spread_field}
+use Rattle.gd_replies.specs.declared.row.AllFields.{AllFields}
 use Rattle.gd_replies.specs.declared.row.Field.{Field}
 use Rattle.gd_replies.specs.declared.row.Field.TheVariants as field
 use Rattle.gd_replies.specs.declared.row.Row.{Row}
@@ -21,6 +22,11 @@ field_text (field.Call call) = call_name call
 field_text (field.Refusal refusal) = refusal_name refusal
 field_text (field.Detail detail) = refusal_detail detail.0
 field_text (field.Certificate fault) = cert_fault_name fault
+
+-- the kind and the seven fields of a row
+abbrev pub all_fields : AllFields → List (List ℕ)
+all_fields r =
+    r.0.now ∷ field_text r.1.now ∷ field_text r.2.now ∷ field_text r.3.now ∷ field_text r.4.now ∷ field_text r.5.now ∷ field_text r.6.now ∷ field_text r.7.now ∷ []
 
 -- the fields of a row; those behind them are empty
 abbrev pub row_fields : Row → List (List ℕ)

@@ -3,7 +3,7 @@
 ghost use Rattle.std.specs.Prelude.{Some};
 ghost use Rattle.gd_replies.specs.Calls.{refusal_detail};
 ghost use Rattle.gd_replies.specs.Lines.{line, spread_field};
-ghost use Rattle.gd_replies.specs.Rows.{field_text, row_fields};
+ghost use Rattle.gd_replies.specs.Rows.{all_fields, field_text, row_fields};
 
 use crate::call::Call;
 use gd_certificate::CertFault;
@@ -92,22 +92,49 @@ impl fmt::Display for Field {
     }
 }
 
+/// A row with all its fields.
+#[derive(Clone, Copy)]
+struct AllFields<'a>(
+    &'a str,
+    &'a Field,
+    &'a Field,
+    &'a Field,
+    &'a Field,
+    &'a Field,
+    &'a Field,
+    &'a Field,
+);
+
+impl fmt::Display for AllFields<'_> {
+    ghost output = { λ r. Some (line (all_fields r)) };
+
+    fn fmt<W: fmt::Write>(&self, f: &mut fmt::Formatter<W>) -> fmt::Result {
+        let AllFields(kind, a, b, c, d, e, g, h) = self;
+        write!(f, "{kind},{a},{b},{c},{d},{e},{g},{h}\n")
+    }
+}
+
 impl fmt::Display for Row {
     ghost output = { λ r. Some (line (row_fields r)) };
 
     fn fmt<W: fmt::Write>(&self, f: &mut fmt::Formatter<W>) -> fmt::Result {
+        let empty = &Field::Word("");
         match self {
             Row::Fault(fault) => write!(f, "fault,{fault},,,,\n"),
-            Row::One(kind) => write!(f, "{kind},,,,,,,\n"),
-            Row::Two(kind, a) => write!(f, "{kind},{a},,,,,,\n"),
-            Row::Three(kind, a, b) => write!(f, "{kind},{a},{b},,,,,\n"),
-            Row::Four(kind, a, b, c) => write!(f, "{kind},{a},{b},{c},,,,\n"),
-            Row::Five(kind, a, b, c, d) => write!(f, "{kind},{a},{b},{c},{d},,,\n"),
-            Row::Six(kind, a, b, c, d, e) => write!(f, "{kind},{a},{b},{c},{d},{e},,\n"),
-            Row::Seven(kind, a, b, c, d, e, g) => { write!(f, "{kind},{a},{b},{c},{d},{e},{g},\n") }
-            Row::Eight(kind, a, b, c, d, e, g, h) => {
-                write!(f, "{kind},{a},{b},{c},{d},{e},{g},{h}\n")
-            }
+            Row::One(kind) => AllFields(kind, empty, empty, empty, empty, empty, empty, empty).fmt(
+                f,
+            ),
+            Row::Two(kind, a) => AllFields(kind, a, empty, empty, empty, empty, empty, empty).fmt(
+                f,
+            ),
+            Row::Three(kind, a, b) => AllFields(kind, a, b, empty, empty, empty, empty, empty).fmt(
+                f,
+            ),
+            Row::Four(kind, a, b, c) => AllFields(kind, a, b, c, empty, empty, empty, empty).fmt(f),
+            Row::Five(kind, a, b, c, d) => AllFields(kind, a, b, c, d, empty, empty, empty).fmt(f),
+            Row::Six(kind, a, b, c, d, e) => AllFields(kind, a, b, c, d, e, empty, empty).fmt(f),
+            Row::Seven(kind, a, b, c, d, e, g) => AllFields(kind, a, b, c, d, e, g, empty).fmt(f),
+            Row::Eight(kind, a, b, c, d, e, g, h) => AllFields(kind, a, b, c, d, e, g, h).fmt(f),
         }
     }
 }

@@ -11,7 +11,7 @@ pub const MAX_BLOCKS: usize = 64;
 pub const MAX_SESSIONS_A_SLOT: u16 = 1_024;
 
 /// The blocks so far.
-#[derive(Clone, Copy, Debug)]
+#[derive(Clone, Copy)]
 pub(crate) struct Blocks {
     /// How many have begun.
     pub(crate) begun: u32,

@@ -10,7 +10,7 @@ use std::marker::Model;
 /// A day of the civil calendar, from 0000-01-01 to 9999-12-31.
 ///
 /// A contract sees its year, month and day.
-#[derive(Clone, Copy, Debug, PartialEq, Eq)]
+#[derive(Clone, Copy)]
 pub struct CivilDate {
     year: u16,
     month: u8,

@@ -5,7 +5,7 @@ ghost use Rattle.gd_text_part.specs.Kinds as spec;
 ghost use Rattle.gd_text_part.specs.Places as places;
 
 /// What a text is for: the command that reads it, or the archive that keeps it.
-#[derive(Clone, Copy, Debug, PartialEq, Eq)]
+#[derive(Clone, Copy)]
 pub enum Form {
     /// `check allowed`: a system, a question and a schedule.
     CheckAllowed,
@@ -27,7 +27,7 @@ pub enum Form {
 }
 
 /// The kinds of rows, each named by the first field. A command takes some of them.
-#[derive(Clone, Copy, Debug, PartialEq, Eq)]
+#[derive(Clone, Copy, PartialEq, Eq)]
 pub enum RowKind {
     Segment,
     Point,

@@ -19,7 +19,7 @@ use csv::ByteRecord;
 use std::alloc::Global;
 
 /// What the rows so far leave of the order of a text.
-#[derive(Clone, Copy, Debug)]
+#[derive(Clone, Copy)]
 pub(crate) struct Place {
     /// The least stage that the next row may have.
     pub(crate) stage: u8,

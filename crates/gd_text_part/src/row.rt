@@ -10,7 +10,7 @@ use gd_units::{Class, CycleNo, Dth, End, Kind, Moment, Name, Round};
 pub const FIELD_COUNT: usize = 8;
 
 /// What may be a member of a cut's set.
-#[derive(Clone, Copy, Debug, PartialEq, Eq)]
+#[derive(Clone, Copy)]
 pub enum Member {
     Place,
     Point,
@@ -18,7 +18,7 @@ pub enum Member {
 }
 
 /// A row that builds the pipeline. Quantities are dekatherms a gas day.
-#[derive(Clone, Copy, Debug, PartialEq, Eq)]
+#[derive(Clone, Copy)]
 pub enum PipelineRow {
     /// A one-way segment between two places.
     Segment {
@@ -44,7 +44,7 @@ pub enum PipelineRow {
 }
 
 /// A row that heads a question or fills it. Quantities are dekatherms a gas day.
-#[derive(Clone, Copy, Debug, PartialEq, Eq)]
+#[derive(Clone, Copy)]
 pub enum QuestionRow {
     /// The head of a question.
     Head {
@@ -69,7 +69,7 @@ pub enum QuestionRow {
 
 /// A row that calls the book of a gas day. Moments are seconds since 1970-01-01T00:00:00Z, from 0 to 4,200,000,000.
 /// Quantities are dekatherms a gas day; lines are counted from 1, up to 4,294,967,295.
-#[derive(Clone, Copy, Debug, PartialEq, Eq)]
+#[derive(Clone, Copy)]
 pub enum EventRow {
     /// A shipper nominates a quantity on a line.
     Nominate {
@@ -122,7 +122,7 @@ pub enum EventRow {
 }
 
 /// A row that runs an office. Slots are counted from 1.
-#[derive(Clone, Copy, Debug, PartialEq, Eq)]
+#[derive(Clone, Copy)]
 pub enum OfficeRow {
     /// A session of a party with the book of a slot begins: the calls behind this row are its own.
     Session { slot: u32, party: Name },
@@ -132,7 +132,7 @@ pub enum OfficeRow {
 }
 
 /// A row of a text, by what its kind of rows builds.
-#[derive(Debug, Drop)]
+#[derive(Drop)]
 pub enum Row {
     /// A part of the pipeline.
     Pipeline(PipelineRow),

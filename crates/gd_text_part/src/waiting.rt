@@ -13,7 +13,7 @@ use gd_units::Name;
 pub const MAX_SESSIONS_A_PHASE: u32 = 64;
 
 /// The rows that wait for the row which takes them, and the number of the first of them, counted from 1.
-#[derive(Clone, Copy, Debug, PartialEq, Eq)]
+#[derive(Clone, Copy)]
 pub(crate) enum Waiting {
     /// No rows wait.
     Nothing,

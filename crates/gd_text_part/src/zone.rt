@@ -8,7 +8,7 @@ use std::marker::Model;
 /// What a text gives as a time zone: any text that isn't empty. Whether it is a POSIX rule is found when the calendar is made.
 ///
 /// A contract sees its bytes.
-#[derive(Debug, Drop)]
+#[derive(Drop)]
 pub struct ZoneText {
     text: String,
 }

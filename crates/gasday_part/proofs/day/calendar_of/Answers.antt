@@ -1,5 +1,5 @@
 use Rattle.std.proofs.Common.{inl, inr, ap, Err}
-use Rattle.gd_calendar.specs.declared.calendar.CalendarFault.{CalendarFault}
+use Rattle.gd_zone.specs.declared.gas_day.CalendarFault.{CalendarFault}
 use Rattle.jiff.specs.Words.{plain_zone}
 use Rattle.gasday_part.proofs.day.calendar_of.Goals as goal
 
@@ -9,10 +9,10 @@ returns-in_default-posix-clause-err c =
     let is = c.in_default-posix.is in
     (c.day_in_zones.result, c.day_in_zones.ensures, c.in-Ok.ensures.1, inl (λ s. let bad = none.1 s in cc))
 
-pub returns-in-Ok-new-clause-ok : goal.returns-in-Ok-new-clause-ok
-returns-in-Ok-new-clause-ok c =
+pub returns-in-Ok-calendar-clause-ok : goal.returns-in-Ok-calendar-clause-ok
+returns-in-Ok-calendar-clause-ok c =
     let rule = rw c.as_str.ensures at c.in-Ok-posix.ensures.value in
-    let calendar = rw c.in-Ok.ensures.0 at c.in-Ok-new.ensures.ok in
+    let calendar = rw c.in-Ok.ensures.0 at c.in-Ok-calendar.ensures.ok in
     (c.day_in_zones.result, c.day_in_zones.ensures, c.in-Ok.ensures.1, (plain_zone c.in-Ok-posix.zone, rule, calendar))
 
 pub returns-in-Err-BadZone-clause-err : goal.returns-in-Err-BadZone-clause-err

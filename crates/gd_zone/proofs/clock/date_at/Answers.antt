@@ -1,5 +1,5 @@
-use Rattle.gd_calendar.proofs.Moments.{date_before, date_after}
-use Rattle.gd_calendar.proofs.clock.date_at.Goals as goal
+use Rattle.gd_zone.proofs.Moments.{date_before, date_after}
+use Rattle.gd_zone.proofs.clock.date_at.Goals as goal
 
 pub returns-in-Before : goal.returns-in-Before
 returns-in-Before c = rw (c.ok.ensures.value, c.in-Before.is) (date_before c.args.date c.yesterday.result c.yesterday.ensures.succeeds c.yesterday.ensures.value)

@@ -1,9 +1,9 @@
 -- The times of the clock of the code.
 use Rattle.gd_rules.specs.GasDay.{Day, Time}
 use Rattle.gd_rules.specs.GasDay.Day.{Before, Same, After}
-use Rattle.gd_calendar.specs.declared.clock.Day.{Day as Code}
-use Rattle.gd_calendar.specs.declared.clock.Day.TheVariants as code
-use Rattle.gd_calendar.specs.declared.clock.CivilTime.{CivilTime}
+use Rattle.gd_zone.specs.declared.clock.Day.{Day as Code}
+use Rattle.gd_zone.specs.declared.clock.Day.TheVariants as code
+use Rattle.gd_zone.specs.declared.clock.CivilTime.{CivilTime}
 
 abbrev pub day_of : Code → Day
 day_of code.Before = Before

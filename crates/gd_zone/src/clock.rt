@@ -2,9 +2,9 @@
 
 ghost use Rattle.std.specs.Prelude.{ℕ, List, pos, MatchOption};
 ghost use Rattle.jiff.specs.Words.{plain_zone, IsHms};
-ghost use Rattle.gd_calendar.specs.Zone.{IsBeside, IsCivil, IsMomentOf, AreMoments};
+ghost use Rattle.gd_zone.specs.Zone.{IsBeside, IsCivil, IsMomentOf, AreMoments};
 ghost use Rattle.gd_rules.specs.GasDay.{civil_times};
-ghost use Rattle.gd_calendar.specs.Clock.{day_of, time_of};
+ghost use Rattle.gd_zone.specs.Clock.{day_of, time_of};
 
 use Day::{After, Before, Same};
 use gd_units::Moment;

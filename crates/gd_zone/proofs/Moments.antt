@@ -12,9 +12,9 @@ use Rattle.jiff_core.proofs.DateLemmas.{epoch_day_range}
 use Rattle.jiff_zoned.proofs.SameLemmas.{same_date, same_time}
 use Rattle.gd_rules.specs.GasDay.Day.{Before, After}
 use Rattle.gd_rules.specs.GasDay as gas_day
-use Rattle.gd_calendar.specs.declared.clock.CivilTime.{CivilTime}
-use Rattle.gd_calendar.specs.Clock.{time_of}
-use Rattle.gd_calendar.specs.Zone.{once, IsBeside, IsCivil, IsMomentOf, HasMoment, AreMoments}
+use Rattle.gd_zone.specs.declared.clock.CivilTime.{CivilTime}
+use Rattle.gd_zone.specs.Clock.{time_of}
+use Rattle.gd_zone.specs.Zone.{once, IsBeside, IsCivil, IsMomentOf, HasMoment, AreMoments}
 
 -- an instant with such a second is one that the library has
 quotient_range : (n : ℤ) (m : ℕ) → int_div n (pos 1_000_000_000) ≡ pos m → m ≤ 4_200_000_000 → IsTimestampNanos n

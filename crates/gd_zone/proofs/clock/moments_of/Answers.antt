@@ -3,13 +3,13 @@ use Rattle.std.proofs.lemmas.List.{length-set}
 use Rattle.jiff.specs.Words.{plain_zone}
 use Rattle.gd_rules.specs.GasDay as gas_day
 use Rattle.gd_rules.specs.GasDay.{civil_times, day_before}
-use Rattle.gd_calendar.specs.declared.clock.Day.TheVariants as code
-use Rattle.gd_calendar.specs.declared.clock.CivilTime.{CivilTime}
-use Rattle.gd_calendar.specs.declared.clock.TheConstants.{CIVIL_TIMES}
-use Rattle.gd_calendar.specs.Clock.{time_of}
-use Rattle.gd_calendar.specs.Zone.{HasMoment}
-use Rattle.gd_calendar.proofs.Moments.{AreMoments-from, AreMoments-at, no_moment_at, found_more, time_of-get_or}
-use Rattle.gd_calendar.proofs.clock.moments_of.Goals as goal
+use Rattle.gd_zone.specs.declared.clock.Day.TheVariants as code
+use Rattle.gd_zone.specs.declared.clock.CivilTime.{CivilTime}
+use Rattle.gd_zone.specs.declared.clock.TheConstants.{CIVIL_TIMES}
+use Rattle.gd_zone.specs.Clock.{time_of}
+use Rattle.gd_zone.specs.Zone.{HasMoment}
+use Rattle.gd_zone.proofs.Moments.{AreMoments-from, AreMoments-at, no_moment_at, found_more, time_of-get_or}
+use Rattle.gd_zone.proofs.clock.moments_of.Goals as goal
 
 none : CivilTime
 none = record { 0 = code.Before; 1 = 0; 2 = 0 }

@@ -1,8 +1,8 @@
 use Rattle.std.proofs.Common.{◌≡◌, ℕ, ◌<◌, length, get_or}
 use Rattle.jiff.specs.Words.{plain_zone}
 use Rattle.gd_rules.specs.GasDay.{civil_times, day_before}
-use Rattle.gd_calendar.specs.Zone.{HasMoment}
-use Rattle.gd_calendar.proofs.clock.moments_of.Given as goal
+use Rattle.gd_zone.specs.Zone.{HasMoment}
+use Rattle.gd_zone.proofs.clock.moments_of.Given as goal
 
 abbrev pub invariant-times : goal.invariant-times
 invariant-times l = record {

@@ -1,5 +1,5 @@
-use Rattle.gd_calendar.proofs.Moments.{no_moment}
-use Rattle.gd_calendar.proofs.clock.moment_at.Goals as goal
+use Rattle.gd_zone.proofs.Moments.{no_moment}
+use Rattle.gd_zone.proofs.clock.moment_at.Goals as goal
 
 pub returns-in-Err : goal.returns-in-Err
 returns-in-Err c m found =

@@ -1,0 +1,4 @@
+pub mod Range
+pub mod Names
+pub mod Zone
+pub mod Clock
