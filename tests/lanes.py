@@ -1,0 +1,12 @@
+"""How many checks of crates to run side by side."""
+
+import os
+
+# The most memory that a check of a crate was seen to take, in bytes.
+ROOM = 4_500_000_000
+
+
+def lanes():
+    """As many as there are processors to use, as far as memory allows."""
+    memory = os.sysconf("SC_PAGE_SIZE") * os.sysconf("SC_PHYS_PAGES")
+    return max(1, min(len(os.sched_getaffinity(0)), memory // ROOM))
