@@ -3,9 +3,9 @@ use Rattle.std.specs.Prelude.{◌≡◌, ◌≢◌, ◌⊎◌, ℕ, Bool, List, 
 use Rattle.std.specs.List.{All, AllZip}
 use Rattle.gd_day.specs.Opening.{Opened}
 use Rattle.gd_machine.specs.Day.{Day}
-use Rattle.gd_office_calls.specs.Calls.{seen_phase, asked_phase}
-use Rattle.gd_office_days.specs.Days.{days_of}
-use Rattle.gd_office_phases.specs.Phases.{phases_of}
+use Rattle.gd_office_text.specs.Calls.{seen_phase, asked_phase}
+use Rattle.gd_office_text.specs.Days.{days_of}
+use Rattle.gd_office_text.specs.Phases.{phases_of}
 use Rattle.gd_office_part.specs.declared.threads.Phase.{Phase}
 use Rattle.gd_office_run.specs.RunRows.{TellsRun, EndsEarly}
 use Rattle.gd_replies.specs.declared.reply.Reply.{Reply}

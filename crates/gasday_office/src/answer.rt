@@ -2,7 +2,7 @@
 
 ghost use Rattle.std.specs.Prelude.{◌≡◌, ◌++◌, ◌∷◌, [], IfOk, IfSome, Ok, map, vec_len, length as len_of};
 ghost use Rattle.gd_office.specs.Slots.{AreDaysOf};
-ghost use Rattle.gd_office_days.specs.Days.{days_of as days_by, opened};
+ghost use Rattle.gd_office_text.specs.Days.{days_of as days_by, opened};
 ghost use Rattle.gd_text_part.specs.declared.kind.Form.TheVariants as form;
 ghost use Rattle.gasday_part.specs.Answers.{BytesAnswered, MayBeAnswered};
 ghost use Rattle.gasday_part.specs.AnswerSeen.{answer_seen};
@@ -14,11 +14,9 @@ use gd_book::Book;
 use gd_day::DayText;
 use gd_desk::Open;
 use gd_office::Office;
-use gd_office_calls::calls_in;
-use gd_office_days::days_of;
 use gd_office_part::{Days, Phase};
-use gd_office_phases::phases_of;
 use gd_office_run::{RunFault, run};
+use gd_office_text::{calls_in, days_of, phases_of};
 use gd_replies::Reply;
 use gd_text_part::{Form, Row, read_bytes, rows_in};
 use std::alloc::{AllocError, Global};

@@ -8,6 +8,7 @@
 mod auditing;
 mod fault;
 mod keeping;
+mod laws;
 mod migration;
 mod row;
 mod sound;
@@ -16,4 +17,5 @@ pub use auditing::audit;
 pub use fault::{AuditFault, FetchFault, Rule, Unsound};
 pub use gd_archive_store::{KeepFault, MigrateFault, StoreFault, make};
 pub use keeping::{fetch, keep};
+pub use laws::fetched_once_kept;
 pub use migration::migrate;

@@ -1,2 +1,0 @@
-pub mod OfficePhases
-pub mod Ending
