@@ -13,6 +13,7 @@ use Rattle.gd_course.specs.Course.{Runs, RunsInPart}
 use Rattle.gd_day.specs.Calls.{Call, calls_of}
 use Rattle.gd_day.specs.Opening.{Opened, opened_of}
 use Rattle.gd_machine.specs.Day.{Day}
+use Rattle.gd_machine.specs.Headline.{Holds}
 use Rattle.gd_machine.specs.History.{History}
 use Rattle.gd_replies.specs.declared.reply.Reply.{Reply}
 use Rattle.gd_text_part.specs.Texts.{rows_of, IsWithin, IsTooLong, HasManyBytes, HasManyRows}
@@ -43,12 +44,14 @@ module _ {S : Type 0} (g : Ghosts S) where
   TellsMigration old new a =
       (carried : Result ℕ MigrateFault) × archive.Migrates (state g old) (state g new) carried × (a ≡ migrated carried)
 
--- All calls are made on a book of that day, and then what was published is kept, with these rows and this status.
+-- All calls are made on a book of that day, of whose history the headline holds, and then what was published is kept, with
+-- these rows and this status.
 pub record KeepsRun {S : Type 0} (g : Ghosts S) (day : Day) (calls : List Call) (old new : Held S) (told : List Reply) (status : ℕ) : Type 0 where
   pub rows : List Reply
   pub after : History
   pub answers : List KeepAnswer
   pub runs : Runs day [] calls rows after
+  pub holds : Holds day after
   pub keeps : KeepsPublished g day after old answers new
   pub is : told ≡ rows ++ all_keep_rows answers
   pub ends : status ≡ keep_status answers

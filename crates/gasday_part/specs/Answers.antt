@@ -31,6 +31,7 @@ use Rattle.gd_text_part.specs.declared.kind.Form.{Form}
 use Rattle.gd_text_part.specs.declared.kind.Form.TheVariants as form
 use Rattle.gd_replies.specs.Calendars.{calendar_rows}
 use Rattle.gd_machine.specs.Day.{Day}
+use Rattle.gd_machine.specs.Headline.{Holds}
 use Rattle.gd_machine.specs.History.{History}
 use Rattle.gd_day.specs.Calls.{Call, calls_of}
 use Rattle.gd_day.specs.Opening.{Opened, opened_of}
@@ -184,11 +185,12 @@ TellsCalendar (Err f) a = a ≡ fault_answer f
 abbrev pub no_memory : Reply
 no_memory = reply.Fault fault.OutOfMemory
 
--- All calls are made on a book of that day, and what they give is told, with status 0. Or memory runs out, and what the
--- first calls give is told, and that, with status 2.
+-- All calls are made on a book of that day, of whose history the headline holds, and what they give is told, with status 0. Or
+-- memory runs out, and what the first calls give is told, and that, with status 2.
 abbrev pub TellsCourse : Day → List Call → Told → Type 0
 TellsCourse day calls a =
-    ((rows : List Reply) × (after : History) × Runs day [] calls rows after × (a ≡ record { replies = rows; status = 0 }))
+    ((rows : List Reply) × (after : History) × Runs day [] calls rows after × Holds day after
+    × (a ≡ record { replies = rows; status = 0 }))
     ⊎ ((rows : List Reply) × RunsInPart day [] calls rows
     × (a ≡ record { replies = rows ++ no_memory ∷ []; status = 2 }))
 

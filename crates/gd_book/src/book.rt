@@ -1,8 +1,8 @@
 //! The book.
 
-ghost use Rattle.std.specs.Prelude.{◌≡◌, ℕ, [], ◌≤◌, true, false, length as len_of, take, IfOk, IfErr, OnOk};
+ghost use Rattle.std.specs.Prelude.{◌≡◌, ℕ, [], ◌≤◌, None, true, false, length as len_of, take, IfOk, IfErr, OnOk};
 ghost use Rattle.std.specs.Option.{MatchOption};
-ghost use Rattle.gd_board.specs.Known.{known_of};
+ghost use Rattle.gd_board.specs.Known.{StaysKnown, known_of};
 ghost use Rattle.gd_machine.specs.History.{cycle_of, is_frozen, session_calls};
 ghost use Rattle.gd_machine.specs.Asking.{accepted, question};
 ghost use Rattle.gd_machine.specs.Headline.{Holds};
@@ -170,7 +170,7 @@ impl Book {
 
     /// Publishes a best schedule of the frozen question, which ends the cycle, and posts it on the board. It takes the round
     /// from the question, and checks nothing of the certificate, whose type keeps that it passed. It asks for a note of the
-    /// board, which knows the posting afterwards.
+    /// board, which knows the posting afterwards, knew none of that cycle before, and goes on knowing what it knew.
     ///
     /// # Errors
     ///
@@ -190,6 +190,8 @@ impl Book {
         ensures board { note.new.cells ≡ note.old.cells }
         ensures posted { OnOk result (IsPosted self.old.day self.old.history certificate
             (known_of note.new (cycle_of self.old.history))) }
+        ensures stays { StaysKnown note.old note.new }
+        ensures fresh { OnOk result (known_of note.old (cycle_of self.old.history) ≡ None) }
         ensures all_posted { AllPosted self.old.day self.old.history note.old
             → AllPosted self.old.day self.new.history note.new }
     {

@@ -209,6 +209,7 @@ impl Ledger {
         ensures posted { OnOk result (Posts self.old.opening self.old.history.items
             (known_of note.new (cycle_of self.old.history.items)) event.now) }
         ensures stays { StaysKnown note.old note.new }
+        ensures fresh { OnOk result (known_of note.old (cycle_of self.old.history.items) ≡ None) }
     {
         self.ready(event)?;
         let (reply, told) = self.replies(alloc, event)?;
@@ -245,6 +246,8 @@ impl Ledger {
         ensures board { note.new.cells ≡ note.old.cells }
         ensures posted { OnOk result (Posts self.old.opening self.old.history.items
             (known_of note.new (cycle_of self.old.history.items)) event) }
+        ensures stays { StaysKnown note.old note.new }
+        ensures fresh { OnOk result (known_of note.old (cycle_of self.old.history.items) ≡ None) }
         ensures all_posted { AllPosted self.old.opening self.old.history.items note.old
             → AllPosted self.old.opening self.new.history.items note.new }
     {

@@ -9,6 +9,7 @@ use Rattle.gd_day.specs.Calls.{Call, event_of, calls_of}
 use Rattle.gd_day.specs.Groups.{Passes, AllPass}
 use Rattle.gd_day.proofs.CallGroups.{calls_left, call_at, passes_over, comes_to, none_left}
 use Rattle.gd_machine.specs.Day.{Day}
+use Rattle.gd_machine.specs.Headline.{Holds}
 use Rattle.gd_machine.specs.History.{History}
 use Rattle.gd_replies.specs.declared.reply.Reply.{Reply}
 use Rattle.gd_course.specs.Course.{CallGives, RowGives, Runs, RunsInPart}
@@ -107,8 +108,8 @@ ran_all day h rows start at told after k here =
     subst (λ (l : List Call). Runs day h l told after) (all_taken here.made (calls_of rows) (here.left ∙ none_left rows start at k)) here.run
 
 -- what was made so far
-pub ran_so_far : (day : Day) (h : History) (rows : List Row) (start at : ℕ) (told : List Reply) (after : History) → IsAt day h rows start at told after → RunsInPart day h (calls_of rows) told
-ran_so_far day h rows start at told after here = (here.made, after, here.run)
+pub ran_so_far : (day : Day) (h : History) (rows : List Row) (start at : ℕ) (told : List Reply) (after : History) → IsAt day h rows start at told after → Holds day after → RunsInPart day h (calls_of rows) told
+ran_so_far day h rows start at told after here holds = (here.made, after, here.run, holds)
 
 -- what holds where memory ran out
 pub in_part : {X E : Type 0} (r : Result X E) (P : Type 0) → P → OnErr r P

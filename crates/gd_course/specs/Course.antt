@@ -13,6 +13,7 @@ use Rattle.gd_machine.specs.declared.refusal.Refusal.TheVariants as refusal
 use Rattle.gd_machine.specs.Day.{Day}
 use Rattle.gd_machine.specs.History.{History, is_frozen, round_of}
 use Rattle.gd_machine.specs.Asking.{question}
+use Rattle.gd_machine.specs.Headline.{Holds}
 use Rattle.gd_replies.specs.Days.{TellsUncertified}
 use Rattle.gd_replies.specs.declared.call.Call.TheVariants as call
 use Rattle.gd_replies.specs.declared.reply.Reply.{Reply}
@@ -100,6 +101,6 @@ Runs day h (c ∷ calls) rows after =
     (between : History) × (front : List Reply) × (rest : List Reply)
     × CallGives day h c front between × Runs day between calls rest after × (rows ≡ front ++ rest)
 
--- A run of the first of these calls, as far as memory sufficed.
+-- A run of the first of these calls on a book, as far as memory sufficed: the headline holds of its history too.
 abbrev pub RunsInPart : Day → History → List DayCall → List Reply → Type 0
-RunsInPart day h calls rows = (n : ℕ) × (after : History) × Runs day h (take n calls) rows after
+RunsInPart day h calls rows = (n : ℕ) × (after : History) × Runs day h (take n calls) rows after × Holds day after

@@ -4,6 +4,7 @@ ghost use Rattle.std.specs.Prelude.{◌≡◌, [], ◌∷◌, length as len_of, 
 ghost use Rattle.gd_day.specs.Calls.{calls_of};
 ghost use Rattle.gd_day.specs.Groups.{AllPass};
 ghost use Rattle.gd_book.specs.Postings.{AllPosted};
+ghost use Rattle.gd_machine.specs.Headline.{Holds};
 ghost use Rattle.gd_course.specs.Course as spec;
 
 use crate::event::make_call;
@@ -16,8 +17,8 @@ use std::alloc::{AllocError, Global};
 use std::thread::Threads;
 
 /// Makes the calls of a text's rows one after the other, and appends to `told` what is told of each. It asks for rows whose
-/// groups can be made, and for a note of the board. The only error is want of memory: then `told` has what is told of the
-/// first calls.
+/// groups can be made, and for a note of the board. What holds of every history of a book holds of that at the end. The only
+/// error is want of memory: then `told` has what is told of the first calls.
 pub fn run(
     rt: &(impl Threads + Sync),
     alloc: Global,
@@ -32,6 +33,7 @@ pub fn run(
     requires empty { told.old.items ≡ [] }
     ensures ok { OnOk result (spec.Runs book.old.day book.old.history
         (calls_of rows.now) told.new.items book.new.history) }
+    ensures holds { OnOk result (Holds book.old.day book.new.history) }
     ensures err { OnErr result (spec.RunsInPart book.old.day book.old.history
         (calls_of rows.now) told.new.items) }
     ensures day { book.new.day ≡ book.old.day }
@@ -39,6 +41,7 @@ pub fn run(
     ensures posted { OnOk result (AllPosted book.old.day book.old.history note.old
         → AllPosted book.old.day book.new.history note.new) }
 {
+    let _ = book.history();
     let mut start = 0;
     'rows: for (at, row) in rows.iter().enumerate() {
         let Some(event) = event_of(row) else {
@@ -46,6 +49,7 @@ pub fn run(
         };
         let mut answer = make_call(rt, alloc, book, board, note, &rows[start..at], event)?;
         told.append(&mut answer)?;
+        let _ = book.history();
         start = at + 1;
     }
     Ok(())

@@ -8,10 +8,10 @@ use Rattle.gd_machine.specs.declared.event.Event.TheVariants.{Freeze, Publish, D
 use Rattle.gd_machine.specs.Day.{Day}
 use Rattle.gd_machine.specs.History.{History, is_frozen}
 use Rattle.gd_machine.specs.Asking.{question}
-use Rattle.gd_machine.specs.Machine.{IsLegal}
+use Rattle.gd_machine.specs.Headline.{IsHistoryOf}
 use Rattle.gd_office_part.specs.declared.kept.Receipt.{Receipt}
 use Rattle.gd_office_part.specs.Days.{IsDayOf}
-use Rattle.gd_office_part.specs.StepResults.{Tells}
+use Rattle.gd_office_part.specs.StepResults.{Tells, Stepped}
 use Rattle.gd_desk.specs.declared.desk.Desk.{Desk}
 use Rattle.gd_desk.specs.declared.desk.DeskFault.{DeskFault}
 use Rattle.gd_desk.specs.declared.desk.DeskFault.TheVariants.{NoThread, OutOfMemory}
@@ -21,19 +21,13 @@ abbrev pub IsAsked : Day → History → Option Posed → Type 0
 IsAsked day h None = is_frozen h ≡ false
 IsAsked day h (Some q) = (is_frozen h ≡ true) × (q ≡ question day h)
 
--- The receipt of a freeze at this moment, which was one step after a legal history of the book with the opening values of this
--- slot, and the question that is frozen then.
+-- The receipt of a freeze at this moment, which was one step of the book of this slot after some history of it, and the
+-- question that is frozen then.
 abbrev pub Froze : List Day → ℕ → ℕ → Receipt → Option Posed → Type 0
 Froze days slot moment froze asked =
     (froze.event ≡ Freeze moment)
     × ((day : Day) × (before : History) × (after : History) × IsDayOf days slot day
-    × IsLegal day before × Tells day before (Freeze moment) froze.told after × IsAsked day after asked)
-
--- The receipt of an event that was one step after a legal history of that book.
-abbrev pub Stepped : List Day → ℕ → Receipt → Type 0
-Stepped days slot receipt =
-    (day : Day) × (before : History) × (after : History) × IsDayOf days slot day
-    × IsLegal day before × Tells day before receipt.event receipt.told after
+    × IsHistoryOf day before × Tells day before (Freeze moment) froze.told after × IsAsked day after asked)
 
 -- A publish at this moment of a schedule for the question with prices that show it best, or a declare at this moment and at the
 -- question's round by a cut that shows that it has none.

@@ -3,9 +3,9 @@
 ghost use Rattle.std.specs.Prelude.{◌≡◌, true, false, IfOk};
 ghost use Rattle.std.specs.Option.{MatchOption};
 ghost use Rattle.gd_machine.specs.declared.event.Event.TheVariants as event;
-ghost use Rattle.gd_machine.specs.Machine.{IsLegal};
+ghost use Rattle.gd_machine.specs.Headline.{IsHistoryOf};
 ghost use Rattle.gd_office_part.specs.Days.{IsDayOf};
-ghost use Rattle.gd_office_part.specs.StepResults.{Tells};
+ghost use Rattle.gd_office_part.specs.StepResults.{Tells, Stepped};
 ghost use Rattle.gd_desk.specs.Desks as spec;
 
 use gd_board::{Board, BoardNote};
@@ -16,7 +16,7 @@ use gd_units::Moment;
 use std::alloc::AllocError;
 use std::sync::Wait;
 
-/// Freezes a book at a moment, of whose history it is known that it is legal.
+/// Freezes a book at a moment, and hands out the question that is frozen then, if there is one.
 fn freeze_in<J: Days>(
     kept: &mut Kept<J>,
     moment: Moment,
@@ -25,7 +25,7 @@ fn freeze_in<J: Days>(
 ) -> Result<(Receipt, Option<Question>), AllocError>
     requires { note.old.cells ≡ board.now }
     ensures day { IsDayOf J.days kept.old.slot kept.old.book.day }
-    ensures legal { IsLegal kept.old.book.day kept.old.book.history }
+    ensures history { IsHistoryOf kept.old.book.day kept.old.book.history }
     ensures event { IfOk result (λ both. both.0.event ≡ event.Freeze moment) }
     ensures told { IfOk result (λ both. Tells kept.old.book.day kept.old.book.history
         (event.Freeze moment) both.0.told kept.new.book.history) }
@@ -33,7 +33,6 @@ fn freeze_in<J: Days>(
         (λ both. spec.IsAsked kept.old.book.day kept.new.book.history both.1) }
     ensures board { note.new.cells ≡ note.old.cells }
 {
-    let _ = kept.book().history();
     kept.freeze_in(moment, board, note)
 }
 
@@ -52,24 +51,6 @@ pub(crate) fn freeze<R: Wait, J: Days>(
     freeze_in(&mut slot.lock(rt), moment, slot.board(), note)
 }
 
-/// Makes one step of a book, of whose history it is known that it is legal.
-fn step_in<J: Days>(
-    kept: &mut Kept<J>,
-    event: Event,
-    board: &Board,
-    note: &mut BoardNote,
-) -> Result<Receipt, AllocError>
-    requires { note.old.cells ≡ board.now }
-    ensures day { IsDayOf J.days kept.old.slot kept.old.book.day }
-    ensures legal { IsLegal kept.old.book.day kept.old.book.history }
-    ensures event { IfOk result (λ receipt. receipt.event ≡ event) }
-    ensures told { IfOk result (λ receipt. Tells kept.old.book.day kept.old.book.history
-        event receipt.told kept.new.book.history) }
-{
-    let _ = kept.book().history();
-    kept.step_in(event, board, note)
-}
-
 /// Makes one step of the book of a slot. It waits for the lock. The only error is want of memory, after which the book is as
 /// before.
 pub(crate) fn step<R: Wait, J: Days>(
@@ -80,7 +61,7 @@ pub(crate) fn step<R: Wait, J: Days>(
 ) -> Result<Receipt, AllocError>
     requires { note.old.cells ≡ slot.now.board }
     ensures event { IfOk result (λ receipt. receipt.event ≡ event) }
-    ensures stepped { IfOk result (spec.Stepped J.days slot.now.number) }
+    ensures stepped { IfOk result (Stepped J.days slot.now.number) }
 {
-    step_in(&mut slot.lock(rt), event, slot.board(), note)
+    slot.lock(rt).step_in(event, slot.board(), note)
 }

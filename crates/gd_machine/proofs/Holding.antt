@@ -6,6 +6,7 @@ use Rattle.gd_machine.specs.Machine.{IsLegal, AllPass}
 use Rattle.gd_machine.specs.Headline.{Headline, DeclaresImpossible, SparesTimely}
 use Rattle.gd_machine.proofs.Legal.{published_is_best}
 use Rattle.gd_machine.proofs.ImpossibleCycles.{declared_is_impossible, timely_is_not_declared}
+use Rattle.gd_machine.proofs.FormerFreezes.{freezes_each, asks_frozen}
 use Rattle.gd_machine.proofs.FrozenIntakes.{closes_intakes}
 use Rattle.gd_machine.proofs.Intakes.{stands_in_one}
 use Rattle.gd_machine.proofs.Sound.{prefix_sound}
@@ -29,5 +30,5 @@ headline day h is_day legal pass = record {
   published = published_is_best day h legal pass;
   declared = declares day h is_day legal pass;
   timely = spares day h legal;
-  counted = (stands_in_one day h legal, closes_intakes day h is_day legal);
+  counted = (stands_in_one day h legal, closes_intakes day h is_day legal, freezes_each day h legal, asks_frozen day h legal);
 }

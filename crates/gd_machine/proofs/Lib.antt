@@ -10,6 +10,7 @@ pub mod ImpossibleCycles
 pub mod PoolExamples
 pub mod Times
 pub mod Closes
+pub mod FormerFreezes
 pub mod FrozenIntakes
 pub mod Prefixes
 pub mod Nominations

@@ -1,5 +1,6 @@
 -- What a gas day's book does, whatever calls come in whatever order: said of every legal history.
-use Rattle.std.specs.Prelude.{◌≡◌, ℕ, ◌+◌, ◌<◌, ◌≤◌, List, length, take, slice_get, Some}
+use Rattle.std.specs.Prelude.{◌≡◌, ℕ, ◌+◌, ◌<◌, ◌≤◌, true, List, length, take, slice_get, Some}
+use Rattle.std.specs.List.{All}
 use Rattle.gd_rules.specs.Limits.{cycles}
 use Rattle.gd_rules.specs.Schedule.{IsAllowed}
 use Rattle.gd_rules.specs.Spread.{IsBest}
@@ -10,7 +11,7 @@ use Rattle.gd_machine.specs.declared.event.Event.{Event}
 use Rattle.gd_machine.specs.declared.event.Event.TheVariants.{Freeze, Publish, Declare}
 use Rattle.gd_machine.specs.declared.reply.Reply.{Reply}
 use Rattle.gd_machine.specs.Day.{Day, IsDay}
-use Rattle.gd_machine.specs.History.{History, cycle_of}
+use Rattle.gd_machine.specs.History.{History, cycle_of, is_frozen}
 use Rattle.gd_machine.specs.Asking.{question, nomination_of, nominations, counted}
 use Rattle.gd_machine.specs.Machine.{IsLegal, AllPass}
 
@@ -52,9 +53,22 @@ ClosesIntakes day h =
     (k moment : ℕ) (reply : Reply) → IsAt h k (Freeze moment, reply)
     → counted day (take k h) ≡ until (cycle_of (take k h)) (nominations day h)
 
+-- The cycle was frozen by one of the first so many events.
+abbrev pub FrozenBefore : History → ℕ → ℕ → Type 0
+FrozenBefore h count cycle =
+    (k : ℕ) × (moment : ℕ) × (reply : Reply) × (k < count) × IsAt h k (Freeze moment, reply) × (cycle_of (take k h) ≡ cycle)
+
+-- Where a cycle is frozen it and each cycle before it were frozen, one that was skipped too: a cut was declared in that.
+abbrev pub FreezesEach : History → Type 0
+FreezesEach h = (k cycle : ℕ) → is_frozen (take k h) ≡ true → 1 ≤ cycle → cycle ≤ cycle_of (take k h) → FrozenBefore h k cycle
+
+-- So each nomination that counts there is of a cycle that was frozen: one whose cycle never is stands in its intake, and in no question.
+abbrev pub AsksFrozen : Day → History → Type 0
+AsksFrozen day h = (k : ℕ) → is_frozen (take k h) ≡ true → All (λ n. FrozenBefore h k n.cycle) (counted day (take k h))
+
 -- Each accepted nomination is counted in exactly one cycle.
 abbrev pub CountsOnce : Day → History → Type 0
-CountsOnce day h = StandsInOne day h × ClosesIntakes day h
+CountsOnce day h = StandsInOne day h × ClosesIntakes day h × FreezesEach h × AsksFrozen day h
 
 -- The headline of a history.
 pub record Holds (day : Day) (h : History) : Type 0 where
@@ -62,6 +76,10 @@ pub record Holds (day : Day) (h : History) : Type 0 where
   pub declared : DeclaresImpossible day h
   pub timely : SparesTimely h
   pub counted : CountsOnce day h
+
+-- The history of a book with these opening values: legal, each certificate passed the check, and so it holds.
+abbrev pub IsHistoryOf : Day → History → Type 0
+IsHistoryOf day h = IsLegal day h × AllPass h × Holds day h
 
 -- The whole promise: it holds of every legal history whose certificates passed the check.
 abbrev pub Headline : Type 0

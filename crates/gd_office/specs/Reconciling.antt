@@ -2,7 +2,7 @@
 use Rattle.std.specs.Prelude.{◌≡◌, ◌≢◌, ℕ, List, length, None, codes}
 use Rattle.gd_machine.specs.Day.{Day}
 use Rattle.gd_machine.specs.History.{History}
-use Rattle.gd_machine.specs.Machine.{IsLegal}
+use Rattle.gd_machine.specs.Headline.{IsHistoryOf}
 use Rattle.gd_office_part.specs.declared.kept.Receipt.{Receipt}
 use Rattle.gd_office_part.specs.Days.{IsDayOf}
 use Rattle.gd_office_part.specs.Seen.{Slot}
@@ -14,13 +14,13 @@ use Rattle.gd_office.specs.declared.reconciling.ReconcileFault.{ReconcileFault}
 use Rattle.gd_office.specs.declared.reconciling.ReconcileFault.TheVariants as fault
 use Rattle.gd_office.specs.Slots.{slot_of}
 
--- All receipts fit one legal history of this length, of the book with the opening values of this slot.
+-- All receipts fit one history of this length, of the book with the opening values of this slot.
 abbrev pub FitAsMany : List Day → ℕ → List (List Receipt) → ℕ → Type 0
-FitAsMany days slot lists n = (day : Day) × (h : History) × IsDayOf days slot day × IsLegal day h × (length h ≡ n) × Fit day h lists
+FitAsMany days slot lists n = (day : Day) × (h : History) × IsDayOf days slot day × IsHistoryOf day h × (length h ≡ n) × Fit day h lists
 
--- The receipt at this place is the first that does not fit one legal history of that book together with those before it.
+-- The receipt at this place is the first that does not fit one history of that book together with those before it.
 abbrev pub MisfitAt : List Day → ℕ → List (List Receipt) → Mismatch → Type 0
-MisfitAt days slot lists m = (day : Day) × (h : History) × IsDayOf days slot day × IsLegal day h × IsFirstMisfit day h lists m.list m.index
+MisfitAt days slot lists m = (day : Day) × (h : History) × IsDayOf days slot day × IsHistoryOf day h × IsFirstMisfit day h lists m.list m.index
 
 -- A receipt does not fit, or memory was wanting.
 abbrev pub ExplainsMisfit : List Day → ℕ → List (List Receipt) → ReceiptsFault → Type 0

@@ -1,7 +1,7 @@
 //! Receipts against the one history behind the lock of a slot.
 
 ghost use Rattle.std.specs.Prelude.{◌≡◌, ◌≢◌, Some, None, length as len_of, IfOk, IfErr, OnOk};
-ghost use Rattle.gd_machine.specs.Machine.{IsLegal};
+ghost use Rattle.gd_machine.specs.Headline.{IsHistoryOf};
 ghost use Rattle.gd_reconcile.specs.Fitting.{lists_of, Fit};
 ghost use Rattle.gd_reconcile.specs.Explaining.{Explains};
 ghost use Rattle.gd_office.specs.Slots.{slot_of};
@@ -40,7 +40,7 @@ impl fmt::Display for ReconcileFault {
 
 /// The length of a book's history, which all receipts fit.
 fn fitted_by(alloc: Global, book: &Book, lists: &[Vec<Receipt>]) -> Result<u64, ReceiptsFault>
-    ensures legal { IsLegal book.now.day book.now.history }
+    ensures history { IsHistoryOf book.now.day book.now.history }
     ensures length { IfOk result (λ n. len_of book.now.history ≡ n) }
     ensures ok { OnOk result (Fit book.now.day book.now.history (lists_of lists.now)) }
     ensures err { IfErr result (Explains book.now.day book.now.history (lists_of lists.now)) }

@@ -1,2 +1,3 @@
+pub mod Ending
 pub mod Picking
 pub mod Shares

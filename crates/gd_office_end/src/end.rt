@@ -1,20 +1,22 @@
 //! How a slot ends: its sessions are closed, and all its receipts are held against its book.
 
-ghost use Rattle.std.specs.Prelude.{◌≡◌, ◌+◌, ◌∷◌, IfOk, IfSome, map, length as len_of};
+ghost use Rattle.std.specs.Prelude.{◌≡◌, ◌+◌, ◌∷◌, IfOk, IfSome, map};
+ghost use Rattle.gd_machine.specs.Headline.{IsHistoryOf};
+ghost use Rattle.gd_office_part.specs.Days.{IsDayOf};
 ghost use Rattle.gd_office_part.specs.Sending.{lists_of};
 ghost use Rattle.gd_office_end.specs.Ends as spec;
 
-use gd_office::{CloseFault, Office, ReconcileFault, close};
-use gd_office_part::{Days, Receipt, Session};
-use gd_reconcile::Mismatch;
+use gd_book::Book;
+use gd_office_part::{Days, Kept, Receipt, Session, Slot};
+use gd_reconcile::{Mismatch, ReceiptsFault, reconcile};
 use std::alloc::{AllocError, Global};
 use std::sync::Wait;
 
 /// How a slot ends.
 #[derive(Clone, Copy, Debug, PartialEq, Eq, Drop)]
 pub enum End {
-    /// All receipts fit its one history of so many events. So many nominations were accepted of its sessions, of so many
-    /// dekatherms a gas day together.
+    /// All receipts fit its one history of so many events, in which so many nominations are accepted, of so many dekatherms
+    /// a gas day together: what its sessions counted.
     Reconciled {
         events: u64,
         nominations: u64,
@@ -26,7 +28,7 @@ pub enum End {
         list: u64,
         index: u64,
     },
-    /// So many sessions are not there to be closed. 0 stands for sums that differ from what the book gained.
+    /// So many sessions are not there to be closed. 0 stands for sums that differ from what the book accepted.
     Missing(u64),
 }
 
@@ -68,50 +70,72 @@ fn misfit(numbers: &[u64], at: Mismatch) -> Option<End>
     Some(End::Misfit { list, index })
 }
 
-/// Holds all receipts of a slot against its book, and tells its end with these sums.
-fn reconciled<R: Wait, J: Days>(
-    rt: &R,
+/// Holds all receipts of a slot, whose sessions are closed with these sums, against its book.
+fn held(
     alloc: Global,
-    office: &Office<J>,
-    slot: u32,
+    book: &Book,
     lists: &[Vec<Receipt>],
     numbers: &[u64],
     sums: (u64, u64),
 ) -> Result<End, AllocError>
-    ensures { IfOk result (spec.EndsAs J.days slot (lists_of lists.now) numbers.now sums.0 sums.1) }
+    ensures { IfOk result (spec.Holds book.now.day book.now.history (lists_of lists.now) numbers.now sums) }
 {
-    match office.reconcile(rt, alloc, slot, lists) {
-        Ok(events) => Ok(End::Reconciled {
+    let events = book.history().len() as u64;
+    let (nominations, dekatherms) = book.accepted();
+    if sums.0 != nominations || sums.1 != dekatherms {
+        return Ok(End::Missing(0));
+    }
+    match reconcile(alloc, book, lists) {
+        Ok(()) => Ok(End::Reconciled {
             events,
-            nominations: sums.0,
-            dekatherms: sums.1,
+            nominations,
+            dekatherms,
         }),
-        Err(ReconcileFault::Mismatch(at)) => misfit(numbers, at).ok_or(AllocError),
-        // There is a slot of each number that is asked for, so that nothing but memory can be wanting.
-        Err(_) => Err(AllocError),
+        Err(ReceiptsFault::Mismatch(at)) => misfit(numbers, at).ok_or(AllocError),
+        Err(ReceiptsFault::OutOfMemory) => Err(AllocError),
+    }
+}
+
+/// Ends a slot, whose lock is held.
+fn end_kept<J: Days>(
+    alloc: Global,
+    kept: &mut Kept<J>,
+    sessions: &[Session<'_, J>],
+    lists: &[Vec<Receipt>],
+    numbers: &[u64],
+) -> Result<End, AllocError>
+    ensures own { IsDayOf J.days kept.old.slot kept.old.book.day }
+    ensures history { IsHistoryOf kept.old.book.day kept.old.book.history }
+    ensures ends { IfOk result (spec.EndsOver kept.old.book.day kept.old.book.history
+        (lists_of lists.now) numbers.now (map (λ s. s.numbers) sessions.now)) }
+{
+    let _ = kept.book().history();
+    match kept.close_in(sessions) {
+        Ok(sums) => held(alloc, kept.book(), lists, numbers, sums),
+        Err(count) => Ok(End::Missing(count)),
     }
 }
 
 /// Closes the sessions of a slot, and holds the receipts of its desk and of its sessions, whose numbers these are, against
-/// its book. It waits for the lock. The only error is want of memory.
-pub(crate) fn end_slot<'o, R: Wait, J: Days>(
+/// its book, both under one taking of the lock, for which it waits. The only error is want of memory.
+pub(crate) fn end_slot<R: Wait, J: Days>(
     rt: &R,
     alloc: Global,
-    office: &'o Office<J>,
-    slot: u32,
-    sessions: Vec<Session<'o, J>>,
+    slot: &Slot<J>,
+    sessions: Vec<Session<'_, J>>,
     desk: Vec<Receipt>,
     lists: Vec<Vec<Receipt>>,
     numbers: &[u64],
 ) -> Result<End, AllocError>
-    ensures { IfOk result (spec.EndsWith J.days slot desk.items (lists_of lists.items) numbers.now
+    ensures { IfOk result (spec.EndsWith J.days slot.now.number desk.items (lists_of lists.items) numbers.now
         (map (λ s. s.numbers) sessions.entry.items)) }
 {
     let all = all_lists(alloc, desk, lists)?;
-    match close(rt, office, slot, sessions) {
-        Ok(sums) => reconciled(rt, alloc, office, slot, all.as_slice(), numbers, sums),
-        Err((CloseFault::Missing(count), _)) => Ok(End::Missing(count)),
-        // The sessions are those of this slot, which is there.
-        Err(_) => Ok(End::Missing(0)),
-    }
+    end_kept(
+        alloc,
+        &mut slot.lock(rt),
+        sessions.as_slice(),
+        all.as_slice(),
+        numbers,
+    )
 }

@@ -1,14 +1,13 @@
 //! What an office's run holds of its slots until they end.
 
 ghost use Rattle.std.specs.Prelude.{◌≡◌, ◌+◌, ◌<◌, ◌≤◌, ℕ, OnOk, IfOk, map, length as len_of};
-ghost use Rattle.gd_office.specs.declared.fault.TheConstants.{MAX_SLOTS};
+ghost use Rattle.gd_office.specs.Slots.{AreNumbered};
 ghost use Rattle.gd_office_part.specs.Sending.{lists_of};
 ghost use Rattle.gd_office_end.specs.Shares as spec;
 
 use crate::end::{End, end_slot};
 use crate::slot::{distribute, give, lists_for, take_at};
-use gd_office::Office;
-use gd_office_part::{Days, Receipt, Session, SessionRows};
+use gd_office_part::{Days, Receipt, Session, SessionRows, Slot};
 use std::alloc::{AllocError, Global};
 use std::sync::Wait;
 
@@ -78,17 +77,16 @@ impl<'o, J: Days> Holding<'o, J> {
     }
 }
 
-/// The end of the slot at this place.
-fn end_at<'o, R: Wait, J: Days>(
+/// The end of this slot, which stands at this place.
+fn end_at<R: Wait, J: Days>(
     rt: &R,
     alloc: Global,
-    office: &'o Office<J>,
-    holding: &mut Holding<'o, J>,
+    slot: &Slot<J>,
+    holding: &mut Holding<'_, J>,
     at: usize,
 ) -> Result<End, AllocError>
-    requires few { at < MAX_SLOTS }
     requires there { (slots : ℕ) × spec.IsOf slots holding.old × (at < slots) }
-    ensures ends { IfOk result (spec.EndsBy J.days (at + 1) (spec.share_at holding.old at)) }
+    ensures ends { IfOk result (spec.EndsBy J.days slot.now.number (spec.share_at holding.old at)) }
     ensures same { (slots : ℕ) → spec.IsOf slots holding.old → spec.IsOf slots holding.new }
     ensures others { (k : ℕ) → at < k → spec.share_at holding.new k ≡ spec.share_at holding.old k }
 {
@@ -96,36 +94,25 @@ fn end_at<'o, R: Wait, J: Days>(
     let lists = take_at(alloc, &mut holding.lists, at);
     let numbers = take_at(alloc, &mut holding.numbers, at);
     let desk = take_at(alloc, &mut holding.desks, at);
-    let slot = at as u32 + 1;
-    end_slot(
-        rt,
-        alloc,
-        office,
-        slot,
-        sessions,
-        desk,
-        lists,
-        numbers.as_slice(),
-    )
+    end_slot(rt, alloc, slot, sessions, desk, lists, numbers.as_slice())
 }
 
-/// Ends so many slots in order, of which this is held. It waits for their locks. The only error is want of memory.
-pub fn end_slots<'o, R: Wait, J: Days>(
+/// Ends these slots in order, of which this is held. It waits for the lock of each. The only error is want of memory.
+pub fn end_slots<R: Wait, J: Days>(
     rt: &R,
     alloc: Global,
-    office: &'o Office<J>,
-    holding: Holding<'o, J>,
-    slots: usize,
+    slots: &[Slot<J>],
+    holding: Holding<'_, J>,
 ) -> Result<Vec<End>, AllocError>
-    requires few { slots ≤ MAX_SLOTS }
-    requires holding { spec.IsOf slots holding }
-    ensures len { IfOk result (λ ends. len_of ends.items ≡ slots) }
+    requires numbered { AreNumbered slots.now }
+    requires holding { spec.IsOf (len_of slots.now) holding }
+    ensures len { IfOk result (λ ends. len_of ends.items ≡ len_of slots.now) }
     ensures ends { IfOk result (λ ends. spec.EndFrom J.days (spec.share_at holding.entry) 0 ends.items) }
 {
     let mut holding = holding;
-    let mut ends = Vec::with_capacity(alloc, slots)?;
-    for at in 0..slots {
-        let end = end_at(rt, alloc, office, &mut holding, at)?;
+    let mut ends = Vec::with_capacity(alloc, slots.len())?;
+    for at in 0..slots.len() {
+        let end = end_at(rt, alloc, &slots[at], &mut holding, at)?;
         ends.push(end)?;
     }
     Ok(ends)

@@ -1,13 +1,12 @@
 -- What holds of two lists place by place, and places that are within a list.
-use Rattle.std.proofs.Common.{zero, suc, All, IsSomeAnd, arith, ◌≡◌, ◌∙◌, ℕ, ◌+◌, ◌<◌, List, [], ◌∷◌, ◌++◌, length, take, get_or, slice_get, Some, sym, ap}
+use Rattle.std.proofs.Common.{zero, suc, IsSomeAnd, arith, ◌≡◌, ◌∙◌, ℕ, ◌+◌, ◌<◌, List, [], ◌∷◌, ◌++◌, length, map, take, get_or, slice_get, Some, sym, ap}
 use Rattle.std.specs.List.{AllZip}
 use Rattle.std.proofs.lemmas.List.{take_more}
-use Rattle.std.proofs.lemmas.List.Elements.{All-nil, All-cons}
 use Rattle.std.proofs.lemmas.Option.{slice_get-get_or}
 use Rattle.std.proofs.lemmas.Slice.Zip.{AllZip-right}
 use Rattle.gd_office_part.specs.declared.threads.SessionRows.{SessionRows}
 use Rattle.gd_office_part.specs.Seen.{Session, Slot}
-use Rattle.gd_office_part.specs.Sending.{IsOfSlot}
+use Rattle.gd_office_part.specs.Sending.{IsAtSlot, IsOfSlot, start_of}
 
 push : {A B : Type 0} (R : A → B → Type 0) (xs : List A) (ys : List B) (x : A) (y : B) → AllZip R xs ys → R x y → AllZip R (xs ++ x ∷ []) (ys ++ y ∷ [])
 push R [] [] x y all here = (here, tt)
@@ -41,13 +40,21 @@ within P (x ∷ xs) (suc at) here =
     let rest = within P xs at here in
     omega (arith, rest)
 
--- where each session is of the slot at its place, there is one
-pub slots_there : (slots : List Slot) (sessions : List Session) (rows : List SessionRows) → length sessions ≡ length rows
-    → AllZip (IsOfSlot slots) sessions rows → All (λ (row : SessionRows). row.slot < length slots) rows
-slots_there slots sessions [] long all = All-nil (λ (row : SessionRows). row.slot < length slots)
-slots_there slots [] (row ∷ rows) long all = absurd all
-slots_there slots (session ∷ sessions) (row ∷ rows) long all =
-    let more : length sessions ≡ length rows = omega arith in
-    All-cons (λ (it : SessionRows). it.slot < length slots) row rows
-    (within (λ (slot : Slot). slot.number ≡ session.number) slots row.slot all.0)
-    (slots_there slots sessions rows more all.1)
+-- where the slot at a place has a number, there is one
+pub slot_there : (slots : List Slot) (number : ℕ) (row : SessionRows) → IsAtSlot slots number row → row.slot < length slots
+slot_there slots number row here = within (λ (slot : Slot). slot.number ≡ number) slots row.slot here
+
+-- and it has that number
+pub slot_numbered : (slots : List Slot) (number : ℕ) (row : SessionRows) (slot : Slot) → slot ≡ get_or slots row.slot slot → IsAtSlot slots number row → slot.number ≡ number
+slot_numbered slots number row slot is here =
+    let there : slice_get slots row.slot ≡ Some slot =
+    slice_get-get_or slots row.slot slot (slot_there slots number row here) ∙ ap (λ (z : Slot). Some z) (sym is) in
+    rw there at here
+
+-- what threads are told of sessions, each of which is of the slot at its place
+pub starts_placed : (slots : List Slot) (sessions : List Session) (rows : List SessionRows) → AllZip (IsOfSlot slots) sessions rows
+    → AllZip (λ start row. IsAtSlot slots start.slot row) (map start_of sessions) rows
+starts_placed slots [] [] all = tt
+starts_placed slots [] (row ∷ rows) all = absurd all
+starts_placed slots (session ∷ sessions) [] all = absurd all
+starts_placed slots (session ∷ sessions) (row ∷ rows) all = (all.0, starts_placed slots sessions rows all.1)

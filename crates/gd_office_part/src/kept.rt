@@ -2,7 +2,7 @@
 
 ghost use Rattle.std.specs.Prelude.{◌≡◌, ◌+◌, ◌-◌, ◌^◌, ◌<◌, ◌≤◌, true, false, length as len_of, Option, Err, IfOk, IfErr, OnErr, OnOk};
 ghost use Rattle.std.specs.Option.{MatchOption};
-ghost use Rattle.gd_board.specs.Known.{known_of};
+ghost use Rattle.gd_board.specs.Known.{StaysKnown, known_of};
 ghost use Rattle.gd_board.specs.declared.posting.Posting.{Posting as APosting};
 ghost use Rattle.gd_machine.specs.declared.event.Event.TheVariants as event;
 ghost use Rattle.gd_machine.specs.declared.event.Event.{Event as AnEvent};
@@ -10,12 +10,13 @@ ghost use Rattle.gd_machine.specs.declared.refusal.Refusal.TheVariants as refusa
 ghost use Rattle.gd_machine.specs.Day.{Day};
 ghost use Rattle.gd_machine.specs.History.{History, cycle_of, is_frozen};
 ghost use Rattle.gd_machine.specs.Asking.{question};
+ghost use Rattle.gd_machine.specs.Headline.{IsHistoryOf};
 ghost use Rattle.gd_machine.specs.Machine.{Step};
 ghost use Rattle.gd_book.specs.Postings.{Posts};
 ghost use Rattle.gd_office_part.specs.declared.kept.TheConstants.{MAX_SESSIONS};
 ghost use Rattle.gd_office_part.specs.declared.session.OfficeFault.TheVariants as fault;
 ghost use Rattle.gd_office_part.specs.Days.{IsDayOf};
-ghost use Rattle.gd_office_part.specs.StepResults.{Tells, PostsWhere, IsFrozenAtMost};
+ghost use Rattle.gd_office_part.specs.StepResults.{Tells, PostsWhere, IsFresh, IsFrozenAtMost};
 ghost use Rattle.gd_office_part.specs.Counting.{none, plus, numbers_of};
 
 use crate::days::Days;
@@ -101,6 +102,8 @@ fn make_call(
     ensures board { note.new.cells ≡ note.old.cells }
     ensures posted { OnOk result (Posts book.old.day book.old.history
         (known_of note.new (cycle_of book.old.history)) event) }
+    ensures fresh { OnOk result (IsFresh (known_of note.old (cycle_of book.old.history)) event) }
+    ensures stays { StaysKnown note.old note.new }
 {
     match event {
         Event::Nominate {
@@ -139,9 +142,9 @@ fn told_of(length: u64, answer: Result<Reply, Refusal>) -> Result<Told, AllocErr
     ensures tells { (day : Day) (before : History) (event : AnEvent) (after : History)
         → length ≡ len_of before → Step day before event answer after
         → IfOk result (λ told. Tells day before event told after) }
-    ensures posts { (day : Day) (before : History) (known : Option APosting) (event : AnEvent)
-        → OnOk answer (Posts day before known event)
-        → IfOk result (λ told. PostsWhere day before known event told) }
+    ensures posts { (day : Day) (before : History) (former known : Option APosting) (event : AnEvent)
+        → OnOk answer (Posts day before known event) → OnOk answer (IsFresh former event)
+        → IfOk result (λ told. PostsWhere day before former known event told) }
     ensures err { OnErr result (answer ≡ Err refusal.OutOfMemory) }
 {
     match answer {
@@ -243,7 +246,7 @@ impl<J: Days> Kept<J> {
     }
 
     /// Makes one step of the book by an event, and the receipt of it. It asks for a note of the board, which knows the
-    /// posting of an accepted publish afterwards.
+    /// posting of an accepted publish afterwards, knew none of that cycle before, and goes on knowing what it knew.
     ///
     /// # Errors
     ///
@@ -255,6 +258,8 @@ impl<J: Days> Kept<J> {
         note: &mut BoardNote,
     ) -> Result<Receipt, AllocError>
         requires { note.old.cells ≡ board.now }
+        ensures own { IsDayOf J.days self.old.slot self.old.book.day }
+        ensures history { IsHistoryOf self.old.book.day self.old.book.history }
         ensures asked { IfOk result (λ receipt. (receipt.slot ≡ self.old.slot) × (receipt.event ≡ event)) }
         ensures told { IfOk result (λ receipt. Tells self.old.book.day self.old.book.history event
             receipt.told self.new.book.history) }
@@ -264,10 +269,12 @@ impl<J: Days> Kept<J> {
         ensures day { self.new.book.day ≡ self.old.book.day }
         ensures board { note.new.cells ≡ note.old.cells }
         ensures posted { IfOk result (λ receipt. PostsWhere self.old.book.day self.old.book.history
+            (known_of note.old (cycle_of self.old.book.history))
             (known_of note.new (cycle_of self.old.book.history)) event receipt.told) }
+        ensures stays { StaysKnown note.old note.new }
     {
-        let mine = event.try_clone(self.alloc)?;
         let length = self.book.history().len() as u64;
+        let mine = event.try_clone(self.alloc)?;
         let answer = make_call(&mut self.book, event, board, note);
         let told = told_of(length, answer)?;
         Ok(Receipt {
@@ -291,6 +298,8 @@ impl<J: Days> Kept<J> {
         note: &mut BoardNote,
     ) -> Result<(Receipt, Option<Question>), AllocError>
         requires { note.old.cells ≡ board.now }
+        ensures own { IsDayOf J.days self.old.slot self.old.book.day }
+        ensures history { IsHistoryOf self.old.book.day self.old.book.history }
         ensures asked { IfOk result (λ both. (both.0.slot ≡ self.old.slot) × (both.0.event ≡ event.Freeze moment)) }
         ensures told { IfOk result (λ both. Tells self.old.book.day self.old.book.history (event.Freeze moment)
             both.0.told self.new.book.history) }
@@ -302,6 +311,7 @@ impl<J: Days> Kept<J> {
             × (self.new.before ≡ self.old.before) × (self.new.closed ≡ self.old.closed) }
         ensures day { self.new.book.day ≡ self.old.book.day }
         ensures board { note.new.cells ≡ note.old.cells }
+        ensures stays { StaysKnown note.old note.new }
     {
         let froze = self.step_in(Event::Freeze { moment }, board, note)?;
         let asked = match self.book.frozen() {

@@ -8,6 +8,7 @@ ghost use Rattle.gd_office_part.specs.Calls.{event_of};
 ghost use Rattle.gd_office_part.specs.Counting.{none, counted};
 ghost use Rattle.gd_office_part.specs.Days.{IsDayOf};
 ghost use Rattle.gd_office_part.specs.Names.{office_fault_name};
+ghost use Rattle.gd_office_part.specs.StepResults.{Stepped};
 
 use crate::call::Call;
 use crate::days::Days;
@@ -70,6 +71,7 @@ pub struct Session<'o, J: Days> {
     number: u32,
     party: Name,
     numbers: Numbers,
+    ghost own: { number ≡ slot.now.number },
 }
 
 impl<'o, J: Days> Model for Session<'o, J> {
@@ -171,6 +173,7 @@ pub(crate) fn call_by<R: Wait, J: Days>(
     call: Call,
 ) -> Result<(Receipt, Numbers), AllocError>
     ensures event { IfOk result (λ both. both.0.event ≡ event_of party call) }
+    ensures stepped { IfOk result (λ both. Stepped J.days slot.now.number both.0) }
     ensures numbers { IfOk result (λ both. both.1 ≡ counted numbers both.0.event both.0.told) }
 {
     let event = call.event(party);
@@ -221,6 +224,7 @@ impl<'o, J: Days> Session<'o, J> {
     /// Makes a call, and counts it where it is accepted.
     fn call<R: Wait>(&mut self, rt: &R, call: Call) -> Result<Receipt, AllocError>
         ensures event { IfOk result (λ receipt. receipt.event ≡ event_of self.old.party call) }
+        ensures stepped { IfOk result (Stepped J.days self.old.number) }
         ensures numbers { IfOk result (λ receipt. self.new.numbers
             ≡ counted self.old.numbers receipt.event receipt.told) }
         ensures err { OnErr result (self.new.numbers ≡ self.old.numbers) }
@@ -245,6 +249,7 @@ impl<'o, J: Days> Session<'o, J> {
     ) -> Result<Receipt, AllocError>
         ensures event { IfOk result (λ receipt. receipt.event
             ≡ event.Nominate moment self.old.party key quantity) }
+        ensures stepped { IfOk result (Stepped J.days self.old.number) }
         ensures numbers { IfOk result (λ receipt. self.new.numbers
             ≡ counted self.old.numbers receipt.event receipt.told) }
         ensures err { OnErr result (self.new.numbers ≡ self.old.numbers) }
@@ -275,6 +280,7 @@ impl<'o, J: Days> Session<'o, J> {
     ) -> Result<Receipt, AllocError>
         ensures event { IfOk result (λ receipt. receipt.event
             ≡ event.Respond moment self.old.party line end quantity) }
+        ensures stepped { IfOk result (Stepped J.days self.old.number) }
         ensures numbers { IfOk result (λ receipt. self.new.numbers
             ≡ counted self.old.numbers receipt.event receipt.told) }
         ensures err { OnErr result (self.new.numbers ≡ self.old.numbers) }
@@ -304,6 +310,7 @@ impl<'o, J: Days> Session<'o, J> {
         capacity: Dth,
     ) -> Result<Receipt, AllocError>
         ensures event { IfOk result (λ receipt. receipt.event ≡ event.PostCapacity moment element capacity) }
+        ensures stepped { IfOk result (Stepped J.days self.old.number) }
         ensures numbers { IfOk result (λ receipt. self.new.numbers
             ≡ counted self.old.numbers receipt.event receipt.told) }
         ensures err { OnErr result (self.new.numbers ≡ self.old.numbers) }

@@ -1,6 +1,6 @@
 //! The calls of sessions, each session in a thread of its own.
 
-ghost use Rattle.std.specs.Prelude.{◌≡◌, ◌≢◌, ◌<◌, ◌↔◌, [], ◌∷◌, ◌++◌, length as len_of, map, All, IsTrue, IfOk, IfErr, OnOk, OnErr};
+ghost use Rattle.std.specs.Prelude.{◌≡◌, ◌≢◌, ◌↔◌, [], ◌∷◌, ◌++◌, length as len_of, map, All, IsTrue, IfOk, IfErr, OnOk, OnErr};
 ghost use Rattle.std.specs.List.{AllZip};
 ghost use Rattle.gd_office_part.specs.Sending as spec;
 ghost use Rattle.gd_office_part.specs.declared.threads.SendFault.TheVariants as fault;
@@ -13,6 +13,7 @@ use crate::sent::Sent;
 use crate::session::{Session, Slot, call_by};
 use gd_units::{Moment, Name};
 use std::alloc::{AllocError, Global};
+use std::marker::PhantomData;
 use std::snapshot::Snapshot;
 use std::sync::Wait;
 use std::thread;
@@ -52,23 +53,28 @@ impl From<AllocError> for SendFault {
     }
 }
 
-/// What a thread is told of its session: who calls, and what was counted before.
+/// What a thread is told of its session: the slot whose book it calls, who calls, and what was counted before.
 #[derive(Clone, Copy)]
 struct Start {
+    slot: u32,
     party: Name,
     numbers: Numbers,
 }
 
-/// What a thread promises: a receipt of each of these calls.
+/// What a thread promises: a receipt of each of these calls, each of one step of the book of this slot.
 #[derive(Drop)]
-struct SentOf {
+struct SentOf<J: Days> {
+    slot: u32,
     party: Name,
     start: Numbers,
     calls: Snapshot<Vec<Call>>,
+    of: PhantomData<J>,
 }
 
-impl Promise<Result<Sent, AllocError>> for SentOf {
-    ghost kept_by = { λ p r. IfOk r (λ sent. spec.sent_as sent ≡ spec.asked p.party p.start p.calls.value.items) };
+impl<J: Days> Promise<Result<Sent, AllocError>> for SentOf<J> {
+    ghost kept_by = { λ p r. IfOk r (λ sent.
+        (spec.sent_as sent ≡ spec.asked p.slot p.party p.start p.calls.value.items)
+        × spec.IsStepped J.days sent) };
 }
 
 /// Makes the calls of one session in their order.
@@ -79,7 +85,9 @@ fn make_calls<R: Wait, J: Days>(
     start: &Start,
     calls: &[Call],
 ) -> Result<Sent, AllocError>
-    ensures { IfOk result (λ sent. spec.sent_as sent ≡ spec.asked start.now.party start.now.numbers calls.now) }
+    ensures { IfOk result (λ sent. (spec.sent_as sent
+        ≡ spec.asked slot.now.number start.now.party start.now.numbers calls.now)
+        × spec.IsStepped J.days sent) }
 {
     let mut receipts = Vec::new(alloc);
     let mut numbers = start.numbers;
@@ -88,7 +96,7 @@ fn make_calls<R: Wait, J: Days>(
         receipts.push(receipt)?;
         numbers = next;
     }
-    Ok(Sent::of(start.numbers, receipts, numbers))
+    Ok(Sent::of(slot.number(), start.numbers, receipts, numbers))
 }
 
 /// Adds an item, where there is memory for it.
@@ -100,16 +108,17 @@ fn keep<T: Drop>(items: &mut Vec<T>, item: T) -> Result<(), AllocError>
 }
 
 /// What all threads hand back, in the order of the sessions.
-fn join_all<R: Threads>(
+fn join_all<R: Threads, J: Days>(
     rt: &R,
     alloc: Global,
     starts: &[Start],
     rows: &[SessionRows],
-    children: Vec<PromisedHandle<Result<Sent, AllocError>, SentOf>>,
+    children: Vec<PromisedHandle<Result<Sent, AllocError>, SentOf<J>>>,
 ) -> Result<Vec<Sent>, SendFault>
-    requires { map (λ h. spec.asked h.promise.party h.promise.start h.promise.calls.value.items) children.items
+    requires { map (λ h. spec.asked h.promise.slot h.promise.party h.promise.start h.promise.calls.value.items) children.items
         ≡ spec.asked_all starts.now rows.now }
     ensures sent { IfOk result (λ all. map spec.sent_as all.items ≡ spec.asked_all starts.now rows.now) }
+    ensures stepped { IfOk result (λ all. All (spec.IsStepped J.days) all.items) }
     ensures memory { IfErr result (λ why. why ≡ fault.OutOfMemory) }
 {
     let _ = starts;
@@ -131,8 +140,9 @@ fn send_all<R: Threads + Wait + Sync, J: Days + Send + Sync>(
     rows: &[SessionRows],
 ) -> Result<Vec<Sent>, SendFault>
     requires starts { len_of starts.now ≡ len_of rows.now }
-    requires slots { All (λ row. row.slot < len_of slots.now) rows.now }
+    requires slots { AllZip (λ start row. spec.IsAtSlot slots.now start.slot row) starts.now rows.now }
     ensures sent { IfOk result (λ all. map spec.sent_as all.items ≡ spec.asked_all starts.now rows.now) }
+    ensures stepped { IfOk result (λ all. All (spec.IsStepped J.days) all.items) }
     ensures other { IfErr result (λ why. why ≢ fault.OtherSlot) }
 {
     thread::scope(
@@ -140,8 +150,9 @@ fn send_all<R: Threads + Wait + Sync, J: Days + Send + Sync>(
         rt,
         |scope| -> Result<Vec<Sent>, SendFault>
             requires starts { len_of starts.now ≡ len_of rows.now }
-            requires slots { All (λ row. row.slot < len_of slots.now) rows.now }
+            requires slots { AllZip (λ start row. spec.IsAtSlot slots.now start.slot row) starts.now rows.now }
             ensures sent { IfOk result (λ all. map spec.sent_as all.items ≡ spec.asked_all starts.entry.now rows.entry.now) }
+            ensures stepped { IfOk result (λ all. All (spec.IsStepped J.days) all.items) }
             ensures other { IfErr result (λ why. why ≢ fault.OtherSlot) }
         {
             let mut children = Vec::with_capacity(alloc, rows.len())?;
@@ -150,14 +161,20 @@ fn send_all<R: Threads + Wait + Sync, J: Days + Send + Sync>(
                 let start = &starts[at];
                 let slot = &slots[row.slot];
                 let promise = SentOf {
+                    slot: slot.number(),
                     party: start.party,
                     start: start.numbers,
                     calls: Snapshot::of(&row.calls),
+                    of: PhantomData::<J>,
                 };
                 let calls = row.calls.as_slice();
                 let Ok(child) = scope.spawn_with(
                     promise,
-                    move || make_calls(rt, alloc, slot, start, calls),
+                    move || -> Result<Sent, AllocError>
+                        ensures { IfOk result (λ sent. (spec.sent_as sent
+                            ≡ spec.asked slot.entry.now.number start.entry.now.party start.entry.now.numbers calls.entry.now)
+                            × spec.IsStepped J.days sent) }
+                    { make_calls(rt, alloc, slot, start, calls) },
                 ) else {
                     return Err(SendFault::NoThread);
                 };
@@ -175,6 +192,7 @@ fn starts_of<J: Days>(alloc: Global, sessions: &[Session<'_, J>]) -> Result<Vec<
     let mut starts = Vec::with_capacity(alloc, sessions.len())?;
     for session in sessions {
         starts.push(Start {
+            slot: session.slot(),
             party: session.party(),
             numbers: session.numbers(),
         })?;
@@ -256,6 +274,7 @@ pub fn send<R: Threads + Wait + Sync, J: Days + Send + Sync>(
     ensures slots { OnOk result (AllZip (spec.IsOfSlot slots.now) sessions.old rows.now) }
     ensures exact { AllZip (spec.IsOfSlot slots.now) sessions.old rows.now → IfErr result (λ why. why ≢ fault.OtherSlot) }
     ensures sent { IfOk result (λ lists. spec.AreSent sessions.old rows.now (spec.lists_of lists.items)) }
+    ensures stepped { IfOk result (λ lists. spec.AreStepped J.days sessions.old (spec.lists_of lists.items)) }
     ensures counted { IfOk result (λ lists. spec.AreCounted sessions.old (spec.lists_of lists.items) sessions.new) }
     ensures kept { map spec.kept_of sessions.new ≡ map spec.kept_of sessions.old }
     ensures err { OnErr result (sessions.new ≡ sessions.old) }

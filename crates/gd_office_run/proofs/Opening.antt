@@ -1,16 +1,18 @@
 -- What the sessions of rows are sent and count.
-use Rattle.std.proofs.Common.{◌≡◌, ◌∙◌, ℕ, List, [], ◌∷◌, ◌++◌, length, map, take, refl, sym, ap, ap₂, arith}
+use Rattle.std.proofs.Common.{◌≡◌, ◌∙◌, ℕ, List, [], ◌∷◌, ◌++◌, length, map, take, All, refl, sym, ap, ap₂, subst, arith, ◌+◌}
 use Rattle.std.specs.List.{zip}
 use Rattle.std.proofs.lemmas.List.{length-map}
 use Rattle.std.proofs.Math.Seq.{take-append_seam}
 use Rattle.gd_machine.specs.declared.event.Event.{Event}
+use Rattle.gd_machine.specs.Day.{Day}
 use Rattle.gd_office_part.specs.declared.numbers.Numbers.{Numbers}
 use Rattle.gd_office_part.specs.declared.kept.Receipt.{Receipt}
 use Rattle.gd_office_part.specs.Seen.{Session}
 use Rattle.gd_office_part.specs.declared.threads.SessionRows.{SessionRows}
 use Rattle.gd_office_part.specs.Counting.{none, counted_all}
-use Rattle.gd_office_part.specs.Sending.{events_by, kept_of, AreSent, AreCounted}
-use Rattle.gd_office_run.specs.Runs.{opened, asked, AreReceipts, counts_of}
+use Rattle.gd_office_part.specs.Sending.{events_by, kept_of, AreSent, AreStepped, AreCounted}
+use Rattle.gd_office_part.specs.StepResults.{Stepped}
+use Rattle.gd_office_run.specs.Runs.{opened, asked, AreOfCalls, AreSteps, counts_of}
 
 events_asked : (sessions : List Session) (rows : List SessionRows) → map opened sessions ≡ map asked rows
     → map (λ p. events_by p.0.party p.1.calls.items) (zip sessions rows) ≡ map (λ r. events_by r.party r.calls.items) rows
@@ -25,8 +27,22 @@ events_asked (s ∷ sessions) (r ∷ rows) same =
     (ap (λ (n : List ℕ). events_by n r.calls.items) here) (events_asked sessions rows later)
 
 pub receipts_of : (sessions : List Session) (rows : List SessionRows) (lists : List (List Receipt))
-    → map opened sessions ≡ map asked rows → AreSent sessions rows lists → AreReceipts rows lists
+    → map opened sessions ≡ map asked rows → AreSent sessions rows lists → AreOfCalls rows lists
 receipts_of sessions rows lists same sent = sent ∙ events_asked sessions rows same
+
+-- the slots of the sessions are those of the rows
+pub steps_of : (days : List Day) (sessions : List Session) (rows : List SessionRows) (lists : List (List Receipt))
+    → map opened sessions ≡ map asked rows → AreStepped days sessions lists → AreSteps days rows lists
+steps_of days [] [] [] same all = tt
+steps_of days [] [] (l ∷ lists) same all = absurd all
+steps_of days [] (r ∷ rows) lists same all = cc
+steps_of days (s ∷ sessions) [] lists same all = cc
+steps_of days (s ∷ sessions) (r ∷ rows) [] same all = absurd all
+steps_of days (s ∷ sessions) (r ∷ rows) (l ∷ lists) same all =
+    let head : opened s ≡ asked r = cc in
+    let here : s.number ≡ r.slot + 1 = ap (λ (o : ℕ × List ℕ × Numbers). o.0) head in
+    let later : map opened sessions ≡ map asked rows = cc in
+    (subst (λ (n : ℕ). All (Stepped days n) l) here all.0, steps_of days sessions rows lists later all.1)
 
 pub length_opened : (sessions : List Session) (rows : List SessionRows) → map opened sessions ≡ map asked rows → length sessions ≡ length rows
 length_opened [] [] same = refl
@@ -35,12 +51,12 @@ length_opened (s ∷ sessions) [] same = cc
 length_opened (s ∷ sessions) (r ∷ rows) same =
     let later : map opened sessions ≡ map asked rows = cc in let rest = length_opened sessions rows later in omega (arith, rest)
 
-pub length_receipts : (rows : List SessionRows) (lists : List (List Receipt)) → AreReceipts rows lists → length lists ≡ length rows
+pub length_receipts : (rows : List SessionRows) (lists : List (List Receipt)) → AreOfCalls rows lists → length lists ≡ length rows
 length_receipts [] [] same = refl
 length_receipts [] (l ∷ lists) same = cc
 length_receipts (r ∷ rows) [] same = cc
 length_receipts (r ∷ rows) (l ∷ lists) same =
-    let later : AreReceipts rows lists = cc in let rest = length_receipts rows lists later in omega (arith, rest)
+    let later : AreOfCalls rows lists = cc in let rest = length_receipts rows lists later in omega (arith, rest)
 
 counts_none : (sessions : List Session) (rows : List SessionRows) (lists : List (List Receipt))
     → map opened sessions ≡ map asked rows → length lists ≡ length rows
@@ -60,7 +76,7 @@ counts_none (s ∷ sessions) (r ∷ rows) (l ∷ lists) same long =
 
 -- what sessions that were opened for rows counted
 pub counts_are : (sessions : List Session) (rows : List SessionRows) (lists : List (List Receipt)) (after : List Session)
-    → map opened sessions ≡ map asked rows → AreReceipts rows lists → AreCounted sessions lists after
+    → map opened sessions ≡ map asked rows → AreOfCalls rows lists → AreCounted sessions lists after
     → map (λ s. s.numbers) after ≡ counts_of lists
 counts_are sessions rows lists after same receipts counted =
     counted ∙ counts_none sessions rows lists same (length_receipts rows lists receipts)

@@ -1,6 +1,6 @@
 -- A run of an office's phases, and what is told of it.
 use Rattle.std.specs.Prelude.{◌≡◌, ℕ, ◌+◌, List, [], ◌∷◌, ◌++◌, length, map, vec_len}
-use Rattle.std.specs.List.{All, flat_map}
+use Rattle.std.specs.List.{All, AllZip, flat_map}
 use Rattle.gd_desk.specs.declared.desk.Desk.{Desk}
 use Rattle.gd_desk.specs.Desks.{AreDesks}
 use Rattle.gd_machine.specs.Day.{Day}
@@ -11,6 +11,7 @@ use Rattle.gd_office_part.specs.declared.threads.Phase.{Phase}
 use Rattle.gd_office_part.specs.declared.threads.SessionRows.{SessionRows}
 use Rattle.gd_office_part.specs.Counting.{none, counted_all}
 use Rattle.gd_office_part.specs.Sending.{events_of, events_by}
+use Rattle.gd_office_part.specs.StepResults.{Stepped}
 use Rattle.gd_office_replies.specs.Desks.{desk_rows}
 use Rattle.gd_office_replies.specs.Receipts.{sessions_rows}
 use Rattle.gd_replies.specs.declared.reply.Reply.{Reply}
@@ -23,8 +24,16 @@ abbrev pub asked : SessionRows → ℕ × List ℕ × Numbers
 asked r = (r.slot + 1, r.party, none)
 
 -- Of each session there is a list, with one receipt of each of its calls in their order, which has that call's event by the session's party.
-abbrev pub AreReceipts : List SessionRows → List (List Receipt) → Type 0
-AreReceipts rows lists = map events_of lists ≡ map (λ r. events_by r.party r.calls.items) rows
+abbrev pub AreOfCalls : List SessionRows → List (List Receipt) → Type 0
+AreOfCalls rows lists = map events_of lists ≡ map (λ r. events_by r.party r.calls.items) rows
+
+-- Each of these receipts was one step of the book of its session's slot. Rows count slots from 0.
+abbrev pub AreSteps : List Day → List SessionRows → List (List Receipt) → Type 0
+AreSteps days rows lists = AllZip (λ r receipts. All (Stepped days (r.slot + 1)) receipts) rows lists
+
+-- The receipts of the calls of sessions.
+abbrev pub AreReceipts : List Day → List SessionRows → List (List Receipt) → Type 0
+AreReceipts days rows lists = AreOfCalls rows lists × AreSteps days rows lists
 
 -- What the sessions of these lists counted.
 abbrev pub counts_of : List (List Receipt) → List Numbers
@@ -32,7 +41,7 @@ counts_of lists = map (counted_all none) lists
 
 -- A phase gives the receipts of its sessions, and a desk of its moment for each slot, by a book with the slot's opening values.
 abbrev pub Gives : List Day → ℕ → Phase → List (List Receipt) → List Desk → Type 0
-Gives days slots p lists desks = AreReceipts p.sessions.items lists × AreDesks days p.moment desks × (length desks ≡ slots)
+Gives days slots p lists desks = AreReceipts days p.sessions.items lists × AreDesks days p.moment desks × (length desks ≡ slots)
 
 abbrev pub desk_rows_of : ℕ → Desk → List Reply
 desk_rows_of slot d = desk_rows slot d.froze d.question d.closed

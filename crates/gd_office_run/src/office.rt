@@ -138,7 +138,7 @@ fn end_run<'o, R: Wait, J: Days>(
         rows.new.items) }
 {
     let _ = phases;
-    let ends = end_slots(rt, alloc, office, holding, office.slots().len())?;
+    let ends = end_slots(rt, alloc, office.slots(), holding)?;
     let mut last = ends_replies(alloc, ends.as_slice())?;
     rows.append(&mut last)?;
     Ok(all_reconciled(ends.as_slice()))

@@ -10,4 +10,4 @@ returns-clause-part g c =
     let b = c.args.book.now in
     let calls = calls_of c.args.rows.now in
     part_of_all b.day calls c.run.new.told.items c.keep_published.new.told.items c.run.new.book.history c.keep_published.result
-    (subst (λ (h : History). Runs b.day h calls c.run.new.told.items c.run.new.book.history) c.requires.new c.in_ok-run.ensures.ok) c.keep_published.ensures.untold
+    (subst (λ (h : History). Runs b.day h calls c.run.new.told.items c.run.new.book.history) c.requires.new c.in_ok-run.ensures.ok) c.in_ok-run.ensures.holds c.keep_published.ensures.untold

@@ -14,6 +14,7 @@ rows-preserved-in_default g c =
       day = kept.day;
       board = kept.board;
       cells = kept.cells;
+      holds = kept.holds;
       posted = kept.posted;
     }
 
@@ -23,14 +24,14 @@ returns-clause-ok g c =
 
 pub returns-in_err-answer-clause-err : goal.returns-in_err-answer-clause-err
 returns-in_err-answer-clause-err g c =
-    in_part _ _ (ran_so_far c.args.book.now.day c.args.book.now.history c.args.rows.now c.rows.start c.rows.at c.rows.told.items c.rows.book.history c.rows.invariant.here)
+    in_part _ _ (ran_so_far c.args.book.now.day c.args.book.now.history c.args.rows.now c.rows.start c.rows.at c.rows.told.items c.rows.book.history c.rows.invariant.here c.rows.invariant.holds)
 
 pub returns-in_err-append-clause-err : goal.returns-in_err-append-clause-err
 returns-in_err-append-clause-err g c =
     let h = c.args.book.now.history in
     let rows = c.args.rows.now in
     in_part _ _ (subst (λ (l : List Reply). RunsInPart c.args.book.now.day h (calls_of rows) l) (sym c.in_err-append.ensures.items)
-    (ran_so_far c.args.book.now.day h rows c.rows.start c.rows.at c.rows.told.items c.rows.book.history c.rows.invariant.here))
+    (ran_so_far c.args.book.now.day h rows c.rows.start c.rows.at c.rows.told.items c.rows.book.history c.rows.invariant.here c.rows.invariant.holds))
 
 pub rows-preserved : goal.rows-preserved
 rows-preserved g c =
@@ -42,5 +43,6 @@ rows-preserved g c =
       day = c.make_call.ensures.day ∙ kept.day;
       board = c.make_call.ensures.board ∙ kept.board;
       cells = c.make_call.ensures.board ∙ kept.cells;
+      holds = rw (sym (c.make_call.ensures.day ∙ kept.day)) c.history-in-rows.ensures.holds;
       posted = λ all. let goes_on = rw kept.day at c.in_ok-answer.ensures.posted in goes_on (kept.posted all);
     }

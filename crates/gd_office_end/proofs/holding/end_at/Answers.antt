@@ -1,5 +1,4 @@
-use Rattle.std.proofs.Common.{◌≡◌, ◌+◌, ◌<◌, ℕ, List, ap, map, arith, sym, ◌∙◌}
-use Rattle.gd_office_part.specs.declared.kept.Receipt.{Receipt}
+use Rattle.std.proofs.Common.{◌≡◌, ap, map, arith, ◌∙◌}
 use Rattle.gd_office_part.specs.Seen.{Session}
 use Rattle.gd_office_part.specs.Sending.{lists_of}
 use Rattle.gd_office_end.specs.Shares.{share_at}
@@ -15,7 +14,7 @@ returns-clause-ends g c =
     let lists = took holding.lists.items at l.result (omega (arith, below, of.1)) (l.ensures.taken l.result) in
     let numbers = took holding.numbers.items at n.result (omega (arith, below, of.2)) (n.ensures.taken n.result) in
     let desk = took holding.desks.items at d.result (omega (arith, below, of.3)) (d.ensures.taken d.result) in
-    ends_by g.J.Days.days (at + 1) c.end_slot.result (share_at holding at) d.result.items (lists_of l.result.items) c.as_slice.result.now (map (λ (x : Session). x.numbers) s.result.items)
+    ends_by g.J.Days.days c.args.slot.now.number c.end_slot.result (share_at holding at) d.result.items (lists_of l.result.items) c.as_slice.result.now (map (λ (x : Session). x.numbers) s.result.items)
     (ap (map (λ (x : Session). x.numbers)) sessions) (ap lists_of lists) (c.as_slice.ensures.value ∙ numbers) desk c.end_slot.ensures
 
 pub returns-clause-others : goal.returns-clause-others
