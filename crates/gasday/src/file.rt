@@ -41,10 +41,11 @@ impl<'a> Opener<FileStore<File>> for ArchiveFile<'a> {
     }
 }
 
-/// Closes an archive that was opened.
-pub(crate) fn close(archive: Option<Connection<FileStore<File>>>) {
-    if let Some(archive) = archive {
-        // What is kept is in the log or in the file: where the one cannot be copied into the other, both stay.
-        let _ = archive.close();
+/// Closes an archive that was opened, and copies its log into its file. Where that fails both stay, and what was kept stands
+/// in the log.
+pub(crate) fn close(archive: Option<Connection<FileStore<File>>>) -> Result<(), Error> {
+    match archive {
+        Some(archive) => archive.close(),
+        None => Ok(()),
     }
 }

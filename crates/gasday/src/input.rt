@@ -15,6 +15,10 @@ pub(crate) enum Input<'a> {
 }
 
 impl<'a> Read for Input<'a> {
+    ghost use Rattle.gasday.specs.Inputs.{remaining_of};
+
+    ghost remaining = { remaining_of };
+
     fn read(&mut self, buf: &mut [u8]) -> io::Result<usize> {
         match self {
             Input::Standard(reader) => reader.read(buf),

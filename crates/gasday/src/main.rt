@@ -2,40 +2,61 @@
 //! beside them what people are told on standard error.
 #![tactic(auto)]
 
+ghost use Rattle.gasday_words.specs.Ordered.{seen};
+ghost use Rattle.gasday.specs.Carried.{CarriesOut};
+
 mod file;
 mod input;
 mod told;
 
 use crate::file::{ArchiveFile, close};
 use crate::input::{Input, text_of};
-use crate::told::{tell_unread, tell_waiting, tell_why};
-use gasday_archive::run;
+use crate::told::{tell_unclosed, tell_unread, tell_waiting, tell_why};
+use gasday_archive::{Opener, Ran, run};
 use gasday_office::run_office;
 use gasday_words::{Command, Order, Request, UsageFault, request_of};
 use gd_heard::{Heard, Said};
 use gd_messages::Part;
+use sqlite::{Alter, Error};
+use std::alloc::Global;
+use std::io::{Read, Write};
 use std::process::ExitCode;
 use std::sync::Wait;
 use std::thread::Threads;
 use std::time::Clock;
 use std::{env, io};
 
-/// Runs an order over its text, and answers the exit status. The threads are the runtime's, which has them in `main` alone.
-fn run_over<T: Threads + Wait + Clock + Sync, W: io::Write>(
-    threads: &T,
-    rt: &HostRuntime,
-    order: Order<'_>,
-    reader: &mut Heard<Input<'_>>,
-    writer: &mut Said<W>,
-) -> u8 {
-    match order {
-        Order::Text(Command::Office) => run_office(threads, rt.alloc(), reader, writer),
-        order => {
-            let file = ArchiveFile { rt, order };
-            let ran = run(threads, rt.alloc(), order, reader, writer, file);
-            close(ran.archive);
-            ran.status
+/// The exit status of an order whose archive is closed so: 2 where what it kept or migrated is not in the archive's file, which
+/// people are told.
+fn closed(rt: &HostRuntime, order: Order<'_>, closed: Result<(), Error>, status: u8) -> u8 {
+    match (order, closed) {
+        (Order::ArchivedDay(_) | Order::Migrate(_), Err(error)) => {
+            tell_unclosed(rt, &error);
+            2
         }
+        _ => status,
+    }
+}
+
+/// Carries out an order over its text, and answers its exit status with the archive that it opened, as it is left. The threads
+/// are the runtime's, which has them in `main` alone.
+fn run_over<T: Threads + Wait + Clock + Sync, S: Alter + Drop, R: Read, W: Write, O: Opener<S>>(
+    threads: &T,
+    alloc: Global,
+    order: Order<'_>,
+    reader: &mut R,
+    writer: &mut W,
+    opener: O,
+) -> Ran<S>
+    ensures { CarriesOut S.Store (O.Opener.opens opener) (seen order.entry) (R.remaining reader.old)
+        result.archive (W.contents writer.old) (W.contents writer.new) result.status }
+{
+    match order {
+        Order::Text(Command::Office) => Ran {
+            status: run_office(threads, alloc, reader, writer),
+            archive: None,
+        },
+        order => run(threads, alloc, order, reader, writer, opener),
     }
 }
 
@@ -50,7 +71,9 @@ fn answer<T: Threads + Wait + Clock + Sync>(
 ) -> u8 {
     let mut reader = Heard::new(rt.alloc(), input);
     let mut writer = Said::new(rt.alloc(), io::writer(rt));
-    let status = run_over(threads, rt, order, &mut reader, &mut writer);
+    let file = ArchiveFile { rt, order };
+    let ran = run_over(threads, rt.alloc(), order, &mut reader, &mut writer, file);
+    let status = closed(rt, order, close(ran.archive), ran.status);
     if status != 0 {
         tell_why(rt, order, parts, &reader, &writer);
     }

@@ -5,6 +5,7 @@ use gasday_words::{Command, Order};
 use gd_heard::{Heard, Said};
 use gd_messages::{Part, Source, message_of};
 use gd_text_part::Form;
+use sqlite::Error;
 use std::io;
 use std::io::{ErrorKind, IsTerminal, Write};
 
@@ -27,6 +28,15 @@ pub(crate) fn tell_unread(rt: &HostRuntime, unread: &Unread<'_>) {
     let name = unread.name;
     if let Ok(what) = format!(in rt.alloc(); "read {name}") {
         tell_error(rt, what.as_str(), &unread.error);
+    }
+}
+
+/// Tells that what an archive's log has is not in its file yet, and why. It is read from the log all the same.
+pub(crate) fn tell_unclosed(rt: &HostRuntime, error: &Error) {
+    if let Ok(message) = format!(in rt.alloc();
+        "can't copy the archive's log into its file: {error}; keep FILE-wal beside it"
+    ) {
+        tell(rt, message.as_str());
     }
 }
 

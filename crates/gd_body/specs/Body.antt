@@ -1,5 +1,5 @@
 -- The posting that a text says, and what reading and writing may answer.
-use Rattle.std.specs.Prelude.{Bool, ◌&&◌, nat_le, length, if◌then◌else◌, ◌≡◌, ◌≢◌, ℕ, ◌-◌, ⊤, List, [], ◌∷◌, map, Option, Some, None, Result, Ok, Err}
+use Rattle.std.specs.Prelude.{Bool, true, ◌&&◌, nat_le, nat_lt, length, if◌then◌else◌, ◌≡◌, ◌≢◌, ℕ, ◌+◌, ◌-◌, ⊤, List, [], ◌∷◌, map, Option, Some, None, Result, Ok, Err}
 use Rattle.std.specs.List.{range_with_len}
 use Rattle.gd_cost.specs.declared.lex.Lex.{Lex}
 use Rattle.gd_cost.specs.declared.pair.Pair.{Pair}
@@ -61,8 +61,14 @@ posting_priced rows asked =
 abbrev pub posting_of : List Row → Result Posting TextFault
 posting_of rows = asked_of rows >>= posting_priced rows
 
+-- each of these lines is one of so many, and none comes before or twice: the first is at least this one
+abbrev pub rises_within : ℕ → ℕ → List (ℕ × ℕ) → Bool
+rises_within first count [] = true
+rises_within first count (b ∷ bumped) = (nat_le first b.0 && nat_lt b.0 count) && rises_within (b.0 + 1) count bumped
+
+-- the bumped lines are lines of the question, in rising order, each once
 abbrev pub posting_found : Result Posting TextFault → Option Posting
-posting_found (Ok p) = Some p
+posting_found (Ok p) = if rises_within 0 (length p.question.asked.lines) p.bumped then Some p else None
 posting_found (Err f) = None
 
 abbrev pub posting_under : Result (List Row) RowFault → Option Posting
@@ -73,7 +79,7 @@ posting_under (Err f) = None
 abbrev pub is_within : List ℕ → Bool
 is_within text = nat_le (length text) MAX_BYTES && nat_le (length (records_of text)) MAX_ROWS
 
--- the posting that a text says; none where it is too long, or its rows or what they build are refused
+-- the posting that a text says; none where it is too long, its rows or what they build are refused, or bumped lines are none of the question's
 abbrev pub posting_in : List ℕ → Option Posting
 posting_in text = if is_within text then posting_under (rows_of form.Body text) else None
 

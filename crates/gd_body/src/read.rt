@@ -1,6 +1,6 @@
 //! How a body is read.
 
-ghost use Rattle.std.specs.Prelude.{◌≡◌, IfOk};
+ghost use Rattle.std.specs.Prelude.{◌≡◌, ◌&&◌, nat_le, nat_lt, IfOk};
 ghost use Rattle.gd_text.specs.Building.{Builds};
 ghost use Rattle.gd_body.specs.Body as spec;
 
@@ -11,6 +11,7 @@ use gd_cost::Tariff;
 use gd_system::System;
 use gd_text::{Asked, asked_of, prices_of};
 use gd_text_part::{Form, Row, TextFault, rows_in};
+use gd_units::Dth;
 use std::alloc::{AllocError, Global};
 
 /// The lines of the `bumped` rows, which count them from 1.
@@ -64,10 +65,39 @@ fn posting_of(alloc: Global, rows: &[Row]) -> Result<Posting, TextFault>
     })
 }
 
-/// The posting that a text says. `Damaged` where it says none, or is too long; the only other error is want of memory.
+/// Whether a line is at least the first of these and one of so many.
+fn is_within(first: usize, count: usize, line: usize) -> bool
+    ensures { result ≡ (nat_le first line && nat_lt line count) }
+{
+    first <= line && line < count
+}
+
+/// Whether these are some of so many lines, in rising order, each once.
+fn rises_within(count: usize, bumped: &[(u32, Dth)]) -> bool
+    ensures { result ≡ spec.rises_within 0 count bumped.now }
+{
+    let mut first = 0;
+    'lines: for (line, _) in bumped {
+        let line = *line as usize;
+        if !is_within(first, count, line) {
+            return false;
+        }
+        first = line + 1;
+    }
+    true
+}
+
+/// The posting that a text says. `Damaged` where it says none, is too long, or bumps lines that the question doesn't have, or
+/// not in rising order; the only other error is want of memory.
 pub fn read_body(alloc: Global, text: &[u8]) -> Result<Posting, BodyFault>
     ensures { spec.Reads text.now result }
 {
     let rows = rows_in(alloc, Form::Body, text)?;
-    Ok(posting_of(alloc, &rows)?)
+    let posting = posting_of(alloc, &rows)?;
+    if rises_within(posting.question.line_count(), posting.bumped.lines()) {
+        Ok(posting)
+    } else {
+        drop(posting);
+        Err(BodyFault::Damaged)
+    }
 }
