@@ -1,4 +1,4 @@
-"""A gas day's calls, on the example whose replies stand in README.md."""
+"""A gas day's calls, on the example whose replies stand in docs/GUIDE.md."""
 
 import json
 import os
@@ -52,7 +52,7 @@ hours,24,0,0,5,9,13,
 
 class Days(ReportTest):
     def two_answers(self, replies):
-        """A program that tells the replies to `day`, and README.md's calendar to `calendar`."""
+        """A program that tells the replies to `day`, and docs/GUIDE.md's calendar to `calendar`."""
         self.path("calendar-told", CALENDAR)
         self.path("day-told", replies)
         path = self.path("gasday", f'#!/bin/sh\ncat > /dev/null\ncat "{self.folder.name}/$1-told"\n')
@@ -67,7 +67,7 @@ class Days(ReportTest):
         out, _, status = self.day()
         self.assertEqual(status, 0)
         self.assertIn("PASS  gasday day", out)
-        # README.md: Sat Mar 7 13:15:00 CST 2026 is 1772910900, so 19:15 in UTC.
+        # docs/GUIDE.md: Sat Mar 7 13:15:00 CST 2026 is 1772910900, so 19:15 in UTC.
         self.assertIn("   1  2026-03-07 19:15:00 UTC  SHIP nominates 70 under INT, package P, from R1 to D1: accepted as event"
                       " 1, for cycle 1 (Timely), on line 1\n", out)
         self.assertIn("on line 2\n", out)
