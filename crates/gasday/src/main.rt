@@ -2,8 +2,9 @@
 //! beside them what people are told on standard error.
 #![tactic(auto)]
 
+ghost use Rattle.std.specs.Prelude.{◌≡◌};
 ghost use Rattle.gasday_words.specs.Ordered.{seen};
-ghost use Rattle.gasday.specs.Carried.{CarriesOut};
+ghost use Rattle.gasday.specs.Carried.{CarriesOut, status_closed};
 
 mod file;
 mod input;
@@ -28,7 +29,9 @@ use std::{env, io};
 
 /// The exit status of an order whose archive is closed so: 2 where what it kept or migrated is not in the archive's file, which
 /// people are told.
-fn closed(rt: &HostRuntime, order: Order<'_>, closed: Result<(), Error>, status: u8) -> u8 {
+fn closed(rt: &HostRuntime, order: Order<'_>, closed: Result<(), Error>, status: u8) -> u8
+    ensures { result ≡ status_closed (seen order.entry) closed status }
+{
     match (order, closed) {
         (Order::ArchivedDay(_) | Order::Migrate(_), Err(error)) => {
             tell_unclosed(rt, &error);
