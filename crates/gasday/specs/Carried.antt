@@ -1,19 +1,29 @@
--- What a run writes by its order, the office among them.
-use Rattle.std.specs.Prelude.{◌≡◌, ⊤, ℕ, List, Option, None, Result, Err, IfSome}
+-- What an order is answered, the office among them, and what is written of it.
+use Rattle.std.specs.Prelude.{◌≡◌, ⊤, ℕ, List, Option, None, Result, Err}
 use Rattle.sqlite_trees.specs.declared.store.Store.{Ghosts}
 use Rattle.sqlite.specs.Held.{Held}
 use Rattle.sqlite.specs.declared.error.Error.{Error}
 use Rattle.gasday_words.specs.Ordered.{Ordered, Text, ArchivedDay, Migrate}
 use Rattle.gasday_words.specs.declared.order.Command.TheVariants as command
-use Rattle.gasday_part.specs.Output.{WritesAnswer}
-use Rattle.gasday_archive.specs.Orders.{Runs}
-use Rattle.gasday_office.specs.Offices.{MayAnswerOffice}
+use Rattle.gasday_part.specs.Answers.{Told}
+use Rattle.gasday_part.specs.Output.{WritesTold}
+use Rattle.gasday_archive.specs.Orders.{Answers}
+use Rattle.gasday_archive.specs.Runs.{OrNoMemory}
+use Rattle.gasday_office.specs.Offices.{AnswersOfficeBytes}
 
--- What is written of an order, where the bytes that the reader has left are known or not: of an office what it may be answered, and then no archive comes back; of each other order what a run of it writes.
-abbrev pub CarriesOut : {S : Type 0} → Ghosts S → (Result (Held S) Error → Type 0) → Ordered → Option (List ℕ) → Option (Held S) → Option (List ℕ) → Option (List ℕ) → ℕ → Type 0
-CarriesOut g gives (Text command.Office) known left old new status =
-    (left ≡ None) × IfSome known (λ text. WritesAnswer MayAnswerOffice text old new status)
-CarriesOut g gives order known left old new status = Runs g gives order known left old new status
+-- an office's answer to the bytes of a text; no archive comes back
+abbrev pub AnswersSlots : {S : Type 0} → List ℕ → Option (Held S) → Told → Type 0
+AnswersSlots text left a = (left ≡ None) × AnswersOfficeBytes text a
+
+-- What an order is answered: of an office what its text is answered, or that memory ran out before; of each other order what that
+-- is.
+abbrev pub AnswersOrder : {S : Type 0} → Ghosts S → (Result (Held S) Error → Type 0) → Ordered → List ℕ → Option (Held S) → Told → Type 0
+AnswersOrder g gives (Text command.Office) text left a = OrNoMemory (AnswersSlots text) left a
+AnswersOrder g gives order text left a = Answers g gives order text left a
+
+-- What is written of an order over these bytes, and the exit status: what it is answered, and nothing else.
+abbrev pub CarriesOut : {S : Type 0} → Ghosts S → (Result (Held S) Error → Type 0) → Ordered → List ℕ → Option (Held S) → Option (List ℕ) → Option (List ℕ) → ℕ → Type 0
+CarriesOut g gives order text left old new status = WritesTold (AnswersOrder g gives order text left) old new status
 
 -- The exit status of an order whose archive is closed so: 2 where what it kept or migrated isn't copied into the archive's file.
 abbrev pub status_closed : Ordered → Result ⊤ Error → ℕ → ℕ

@@ -1,42 +1,33 @@
 //! Where a text comes from: standard input, or files that were named.
 
+use crate::noted::Noted;
 use gd_messages::Part;
-use gd_text_part::MAX_BYTES;
+use gd_text_part::{MAX_BYTES, TextFault, read_bytes};
 use std::fs::File;
 use std::io;
-use std::io::{Read, StdinLock};
+use std::io::Read;
 
-/// What a command reads.
+/// What a command reads: the bytes of standard input, or those of files, one behind the other, each without a byte order mark and
+/// ended by a line break.
 #[derive(Drop)]
-pub(crate) enum Input<'a> {
-    Standard(StdinLock<'a>),
-    /// What the files have, one behind the other.
-    Files(&'a [u8]),
+pub(crate) struct Text<'a> {
+    pub(crate) bytes: Vec<u8>,
+    /// The files, none of standard input.
+    pub(crate) parts: Vec<Part<'a>>,
 }
 
-impl<'a> Read for Input<'a> {
-    ghost use Rattle.gasday.specs.Inputs.{remaining_of};
-
-    ghost remaining = { remaining_of };
-
-    fn read(&mut self, buf: &mut [u8]) -> io::Result<usize> {
-        match self {
-            Input::Standard(reader) => reader.read(buf),
-            Input::Files(bytes) => bytes.read(buf),
-        }
-    }
-}
-
-/// A file that can't be read, and why.
+/// Why a text was not read.
 #[derive(Drop)]
-pub(crate) struct Unread<'a> {
-    pub(crate) name: &'a str,
-    pub(crate) error: io::Error,
+pub(crate) enum Unread<'a> {
+    /// A file can't be read.
+    File(&'a str, io::Error),
+    /// What standard input has is no text, or a read failed with an error.
+    Standard(TextFault, Option<io::Error>),
 }
 
 const BYTE_ORDER_MARK: &[u8] = b"\xef\xbb\xbf";
 
-/// How many bytes are read more at the most: of one more than a text may have the engine tells that it is too long.
+/// How many bytes are read more at the most: of one more than a text may have it is told that it is too long.
 fn left(bytes: &[u8]) -> u64 {
     (MAX_BYTES as u64)
         .saturating_add(1)
@@ -57,32 +48,42 @@ fn append(rt: &HostRuntime, name: &str, bytes: &mut Vec<u8>) -> io::Result<()> {
     Ok(())
 }
 
-/// The text of some files: what they have, one behind the other, each without a byte order mark and ended by a line break.
-#[derive(Drop)]
-pub(crate) struct Joined<'a> {
-    pub(crate) bytes: Vec<u8>,
-    pub(crate) parts: Vec<Part<'a>>,
-}
+impl<'a> Text<'a> {
+    /// A text of nothing.
+    pub(crate) fn empty(rt: &HostRuntime) -> Text<'a> {
+        Text {
+            bytes: Vec::new(rt.alloc()),
+            parts: Vec::new(rt.alloc()),
+        }
+    }
 
-impl<'a> Joined<'a> {
     /// Puts a file behind the others.
     fn add(&mut self, rt: &HostRuntime, name: &'a str) -> io::Result<()> {
         let begin = self.bytes.len();
         self.parts.push(Part { name, begin })?;
         append(rt, name, &mut self.bytes)
     }
-}
 
-/// Reads files in order.
-pub(crate) fn text_of<'a>(rt: &HostRuntime, names: &[&'a str]) -> Result<Joined<'a>, Unread<'a>> {
-    let mut text = Joined {
-        bytes: Vec::new(rt.alloc()),
-        parts: Vec::new(rt.alloc()),
-    };
-    for name in names {
-        if let Err(error) = text.add(rt, *name) {
-            return Err(Unread { name: *name, error });
+    /// What these files have, in order.
+    pub(crate) fn of_files(rt: &HostRuntime, names: &[&'a str]) -> Result<Text<'a>, Unread<'a>> {
+        let mut text = Text::empty(rt);
+        for name in names {
+            if let Err(error) = text.add(rt, *name) {
+                return Err(Unread::File(*name, error));
+            }
+        }
+        Ok(text)
+    }
+
+    /// All that standard input has.
+    pub(crate) fn of_input(rt: &HostRuntime) -> Result<Text<'a>, Unread<'a>> {
+        let mut reader = Noted::new(rt.reader());
+        match read_bytes(rt.alloc(), &mut reader) {
+            Ok(bytes) => Ok(Text {
+                bytes,
+                parts: Vec::new(rt.alloc()),
+            }),
+            Err(fault) => Err(Unread::Standard(fault, reader.take_error())),
         }
     }
-    Ok(text)
 }

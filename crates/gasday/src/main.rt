@@ -2,25 +2,31 @@
 //! beside them what people are told on standard error.
 #![tactic(auto)]
 
-ghost use Rattle.std.specs.Prelude.{◌≡◌};
+ghost use Rattle.std.specs.Prelude.{◌≡◌, ◌⊎◌};
 ghost use Rattle.gasday_words.specs.Ordered.{seen};
-ghost use Rattle.gasday.specs.Carried.{CarriesOut, status_closed};
+ghost use Rattle.gasday_part.specs.Answers.{fault_answer, no_memory, one};
+ghost use Rattle.gasday_part.specs.Output.{WritesTold};
+ghost use Rattle.gasday_archive.specs.Runs.{OrNoMemory, Tells};
+ghost use Rattle.gasday.specs.Carried.{AnswersOrder, AnswersSlots, CarriesOut, status_closed};
 
 mod file;
 mod input;
+mod noted;
 mod told;
 
 use crate::file::{ArchiveFile, close};
-use crate::input::{Input, text_of};
-use crate::told::{tell_unclosed, tell_unread, tell_waiting, tell_why};
-use gasday_archive::{Opener, Ran, run};
-use gasday_office::run_office;
+use crate::input::{Text, Unread};
+use crate::noted::Noted;
+use crate::told::{tell_unclosed, tell_unread, tell_unwritten, tell_waiting, tell_why};
+use gasday_archive::{Opener, Outcome, answer_to};
+use gasday_office::answer_office;
+use gasday_part::{last_of, of_fault, write_answer};
 use gasday_words::{Command, Order, Request, UsageFault, request_of};
-use gd_heard::{Heard, Said};
-use gd_messages::Part;
-use sqlite::{Alter, Error};
+use gd_replies::Reply;
+use gd_text_part::TextFault;
+use sqlite::{Alter, Connection, Error};
 use std::alloc::Global;
-use std::io::{Read, Write};
+use std::io::Write;
 use std::process::ExitCode;
 use std::sync::Wait;
 use std::thread::Threads;
@@ -41,46 +47,119 @@ fn closed(rt: &HostRuntime, order: Order<'_>, closed: Result<(), Error>, status:
     }
 }
 
-/// Carries out an order over its text, and answers its exit status with the archive that it opened, as it is left. The threads
-/// are the runtime's, which has them in `main` alone.
-fn run_over<T: Threads + Wait + Clock + Sync, S: Alter + Drop, R: Read, W: Write, O: Opener<S>>(
+/// How an order was carried out: its exit status, the row with which its answer ends, and the archive that it opened, as it is
+/// left, to be closed.
+#[derive(Drop)]
+struct Ran<S: Alter + Drop> {
+    status: u8,
+    last: Option<Reply>,
+    archive: Option<Connection<S>>,
+}
+
+/// What the text of an office is answered, for which nothing is opened.
+fn answer_slots<T: Threads + Wait + Clock + Sync, S: Alter + Drop>(
+    threads: &T,
+    alloc: Global,
+    text: &[u8],
+) -> Outcome<S>
+    ensures { Tells (OrNoMemory (AnswersSlots text.now) result.archive) result.answer }
+{
+    Outcome::unopened(answer_office(threads, alloc, text))
+}
+
+/// What an order is answered, over the bytes of its text. The threads are the runtime's, which has them in `main` alone.
+fn answered<T: Threads + Wait + Clock + Sync, S: Alter + Drop, O: Opener<S>>(
     threads: &T,
     alloc: Global,
     order: Order<'_>,
-    reader: &mut R,
-    writer: &mut W,
+    text: &[u8],
     opener: O,
-) -> Ran<S>
-    ensures { CarriesOut S.Store (O.Opener.opens opener) (seen order.entry) (R.remaining reader.old)
-        result.archive (W.contents writer.old) (W.contents writer.new) result.status }
+) -> Outcome<S>
+    ensures { Tells (AnswersOrder S.Store (O.Opener.opens opener) (seen order.entry) text.now
+        result.archive) result.answer }
 {
     match order {
-        Order::Text(Command::Office) => Ran {
-            status: run_office(threads, alloc, reader, writer),
-            archive: None,
-        },
-        order => run(threads, alloc, order, reader, writer, opener),
+        Order::Text(Command::Office) => answer_slots(threads, alloc, text),
+        order => answer_to(threads, alloc, order, text, opener),
     }
 }
 
-/// Answers a text, which these files make up if it has any, on standard output, and tells people why where the answer isn't
-/// good. Answers the exit status.
+/// Carries out an order over the bytes of its text: writes its answer and nothing else.
+fn run_over<T: Threads + Wait + Clock + Sync, S: Alter + Drop, W: Write, O: Opener<S>>(
+    threads: &T,
+    alloc: Global,
+    order: Order<'_>,
+    text: &[u8],
+    writer: &mut W,
+    opener: O,
+) -> Ran<S>
+    ensures { CarriesOut S.Store (O.Opener.opens opener) (seen order.entry) text.now result.archive
+        (W.contents writer.old) (W.contents writer.new) result.status }
+{
+    let Outcome { answer, archive } = answered(threads, alloc, order, text, opener);
+    let status = write_answer(alloc, writer, &answer);
+    let last = last_of(&answer);
+    drop(answer);
+    Ran {
+        status,
+        last,
+        archive,
+    }
+}
+
+/// Writes that a text could not be read, and answers the exit status.
+fn write_fault<W: Write>(alloc: Global, fault: TextFault, writer: &mut W) -> u8
+    ensures { WritesTold (λ a. (a ≡ fault_answer fault) ⊎ (a ≡ one no_memory 2))
+        (W.contents writer.old) (W.contents writer.new) result }
+{
+    write_answer(alloc, writer, &of_fault(alloc, fault))
+}
+
+/// Answers a text on standard output, and tells people why where the answer isn't good. Answers the exit status.
 fn answer<T: Threads + Wait + Clock + Sync>(
     threads: &T,
     rt: &HostRuntime,
     order: Order<'_>,
-    parts: &[Part<'_>],
-    input: Input<'_>,
+    text: &Text<'_>,
 ) -> u8 {
-    let mut reader = Heard::new(rt.alloc(), input);
-    let mut writer = Said::new(rt.alloc(), io::writer(rt));
+    let mut writer = Noted::new(io::writer(rt));
     let file = ArchiveFile { rt, order };
-    let ran = run_over(threads, rt.alloc(), order, &mut reader, &mut writer, file);
-    let status = closed(rt, order, close(ran.archive), ran.status);
-    if status != 0 {
-        tell_why(rt, order, parts, &reader, &writer);
+    let bytes = text.bytes.as_slice();
+    let ran = run_over(threads, rt.alloc(), order, bytes, &mut writer, file);
+    let (status, last) = (ran.status, ran.last);
+    let status = closed(rt, order, close(ran.archive), status);
+    match (writer.error(), last) {
+        (Some(error), _) => tell_unwritten(rt, error),
+        (None, Some(last)) if status != 0 => tell_why(rt, order, text, &last),
+        _ => {}
     }
     status
+}
+
+/// Tells why a text was not read, and answers the exit status.
+fn refuse(rt: &HostRuntime, order: Order<'_>, unread: &Unread<'_>) -> u8 {
+    if let Unread::Standard(fault, _) = unread {
+        let mut writer = Noted::new(io::writer(rt));
+        let _ = write_fault(rt.alloc(), *fault, &mut writer);
+        if let Some(error) = writer.error() {
+            tell_unwritten(rt, error);
+            return 2;
+        }
+    }
+    tell_unread(rt, order, unread);
+    2
+}
+
+/// The text of a request. Who audits or migrates an archive reads none.
+fn text_of<'a>(rt: &HostRuntime, request: &Request<'a>) -> Result<Text<'a>, Unread<'a>> {
+    match request.order {
+        Order::Audit(_) | Order::Migrate(_) => Ok(Text::empty(rt)),
+        _ if request.texts.is_empty() => {
+            tell_waiting(rt);
+            Text::of_input(rt)
+        }
+        _ => Text::of_files(rt, request.texts.as_slice()),
+    }
 }
 
 /// Carries out a request, and answers the exit status. Where a file can't be read nothing is answered.
@@ -89,25 +168,9 @@ fn carry_out<T: Threads + Wait + Clock + Sync>(
     rt: &HostRuntime,
     request: &Request<'_>,
 ) -> u8 {
-    if request.texts.is_empty() {
-        tell_waiting(rt, request.order);
-        return answer(
-            threads,
-            rt,
-            request.order,
-            &[],
-            Input::Standard(rt.reader()),
-        );
-    }
-    match text_of(rt, request.texts.as_slice()) {
-        Ok(text) => {
-            let input = Input::Files(text.bytes.as_slice());
-            answer(threads, rt, request.order, text.parts.as_slice(), input)
-        }
-        Err(unread) => {
-            tell_unread(rt, &unread);
-            2
-        }
+    match text_of(rt, request) {
+        Ok(text) => answer(threads, rt, request.order, &text),
+        Err(unread) => refuse(rt, request.order, &unread),
     }
 }
 

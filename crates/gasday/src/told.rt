@@ -1,13 +1,13 @@
 //! What people are told on standard error, beside the rows of an answer.
 
-use crate::input::{Input, Unread};
+use crate::input::{Text, Unread};
 use gasday_words::{Command, Order};
-use gd_heard::{Heard, Said};
-use gd_messages::{Part, Source, message_of};
+use gd_messages::{Source, message_of};
+use gd_replies::Reply;
 use gd_text_part::Form;
 use sqlite::Error;
 use std::io;
-use std::io::{ErrorKind, IsTerminal, Write};
+use std::io::{ErrorKind, IsTerminal};
 
 /// Tells a person something, where there is memory for it and somebody to tell.
 fn tell(rt: &HostRuntime, message: &str) {
@@ -23,11 +23,26 @@ fn tell_error(rt: &HostRuntime, what: &str, error: &io::Error) {
     }
 }
 
-/// Tells that a file can't be read, and why.
-pub(crate) fn tell_unread(rt: &HostRuntime, unread: &Unread<'_>) {
-    let name = unread.name;
-    if let Ok(what) = format!(in rt.alloc(); "read {name}") {
-        tell_error(rt, what.as_str(), &unread.error);
+/// Tells that an answer can't be written, and why. A reader that has gone, as behind `| head -1`, is told of by nothing.
+pub(crate) fn tell_unwritten(rt: &HostRuntime, error: &io::Error) {
+    if error.kind() != ErrorKind::BrokenPipe {
+        tell_error(rt, "write to standard output", error);
+    }
+}
+
+/// Tells why a text was not read.
+pub(crate) fn tell_unread(rt: &HostRuntime, order: Order<'_>, unread: &Unread<'_>) {
+    match unread {
+        Unread::File(name, error) => {
+            if let Ok(what) = format!(in rt.alloc(); "read {name}") {
+                tell_error(rt, what.as_str(), error);
+            }
+        }
+        Unread::Standard(_, Some(error)) => tell_error(rt, "read standard input", error),
+        Unread::Standard(fault, None) => {
+            let text = Text::empty(rt);
+            tell_why(rt, order, &text, &Reply::Fault(*fault));
+        }
     }
 }
 
@@ -55,8 +70,8 @@ fn form_of(order: Order<'_>) -> Option<Form> {
 }
 
 /// Tells who sits at a terminal that a text is waited for.
-pub(crate) fn tell_waiting(rt: &HostRuntime, order: Order<'_>) {
-    if form_of(order).is_some() && rt.stdin().is_terminal() {
+pub(crate) fn tell_waiting(rt: &HostRuntime) {
+    if rt.stdin().is_terminal() {
         tell(
             rt,
             "the text is read from the terminal; end it with Ctrl-D, or name files",
@@ -64,31 +79,15 @@ pub(crate) fn tell_waiting(rt: &HostRuntime, order: Order<'_>) {
     }
 }
 
-/// Tells why an answer isn't good: what can't be read or written, or what its last row says. A reader that has gone, as
-/// behind `| head -1`, is told of by nothing.
-pub(crate) fn tell_why<W: Write>(
-    rt: &HostRuntime,
-    order: Order<'_>,
-    parts: &[Part<'_>],
-    heard: &Heard<Input<'_>>,
-    said: &Said<W>,
-) {
-    if let Some(error) = said.error() {
-        if error.kind() != ErrorKind::BrokenPipe {
-            tell_error(rt, "write to standard output", error);
-        }
-        return;
-    }
-    if let Some(error) = heard.error() {
-        return tell_error(rt, "read standard input", error);
-    }
+/// Tells why an answer isn't good, which ends with this row.
+pub(crate) fn tell_why(rt: &HostRuntime, order: Order<'_>, text: &Text<'_>, last: &Reply) {
     let source = Source {
+        alloc: rt.alloc(),
         form: form_of(order),
-        bytes: heard.text(),
-        parts,
+        bytes: text.bytes.as_slice(),
+        parts: text.parts.as_slice(),
     };
-    let message = message_of(rt.alloc(), source, said.last_line());
-    if let Ok(Some(message)) = message {
+    if let Ok(Some(message)) = message_of(source, last) {
         tell(rt, message.as_str());
     }
 }

@@ -1,5 +1,5 @@
 -- Postings are kept one after the other.
-use Rattle.std.proofs.Common.{◌≡◌, ◌≤◌, ◌<◌, ◌+◌, ℕ, zero, suc, max, Bool, true, false, List, [], ◌∷◌, ◌++◌, length, take, drop, get_or, fold, Option, Some, None, IfSome, IsSome, Result, Ok, Err, All, refl, sym, subst, ◌∙◌, ap, append_assoc, inl, inr, arith}
+use Rattle.std.proofs.Common.{◌≡◌, ◌≤◌, ◌<◌, ◌+◌, ℕ, zero, suc, max, true, false, List, [], ◌∷◌, ◌++◌, length, drop, get_or, Option, Some, None, IfSome, IsSome, All, refl, sym, subst, ◌∙◌, ap, append_assoc, inl, inr, arith}
 use Rattle.std.proofs.Math.Seq.{drop-cons}
 use Rattle.std.proofs.lemmas.Bool.{false≢true}
 use Rattle.std.proofs.lemmas.Grind.{flat_map-append}
@@ -12,7 +12,7 @@ use Rattle.gd_archive.specs.Calls.{Keeps}
 use Rattle.gd_board.specs.Known.{Knowledge, StaysKnown, known_of}
 use Rattle.gd_board.specs.declared.posting.Posting.{Posting}
 use Rattle.gd_replies.specs.declared.reply.Reply.{Reply}
-use Rattle.gasday_archive.specs.Keeping.{KeepAnswer, KeepsAll, KeepsKnown, KeepsTold, IsKnownIn, IsThere, keep_rows, all_keep_rows, keep_status, answer_status, is_last}
+use Rattle.gasday_archive.specs.Keeping.{KeepAnswer, KeepsAll, KeepsTold, IsKnownIn, IsThere, keep_rows, all_keep_rows, keep_status, answer_status, is_last}
 
 -- So many of these cycles are kept, and none ended it: what is kept of the others goes on from here.
 pub record SoFar {S : Type 0} (g : Ghosts S) (Is : ℕ → Posting → Type 0) (cycles : List ℕ) (i : ℕ) (old now : Held S) (former told : List Reply) (status : ℕ) : Type 0 where

@@ -1,4 +1,4 @@
 mod Keeping
 mod Publications
 mod Running
-mod Telling
+pub mod Telling

@@ -7,7 +7,7 @@ use Rattle.std.proofs.lemmas.List.{take_more, append-nil}
 use Rattle.std.proofs.lemmas.List.Elements.{All-append, All-cons, All-weaker}
 use Rattle.gd_board.specs.Known.{Knowledge, known_of}
 use Rattle.gd_board.specs.declared.posting.Posting.{Posting}
-use Rattle.gd_book.specs.Postings.{AllPosted, IsPosted, Posts, Tells}
+use Rattle.gd_book.specs.Postings.{AllPosted, IsPosted, Posts}
 use Rattle.gd_certificate.specs.Checked.{Certificate}
 use Rattle.gd_machine.specs.declared.event.Event.{Event}
 use Rattle.gd_machine.specs.declared.event.Event.TheVariants as event
@@ -16,7 +16,7 @@ use Rattle.gd_machine.specs.Day.{Day}
 use Rattle.gd_machine.specs.History.{History, cycle_of}
 use Rattle.gd_machine.specs.Machine.{IsLegal, reply_of}
 use Rattle.gasday_archive.proofs.Keeping.{Suffices}
-use Rattle.gasday_archive.specs.Keeping.{published_cycle, published_cycles, IsPublished, IsPublishedIn, IsThere, IsKnownIn}
+use Rattle.gasday_archive.specs.Keeping.{published_cycle, published_cycles, IsPublishedIn, IsThere, IsKnownIn}
 
 -- one event more
 pub cycles_more : (h : History) (i : ℕ) (p : Event × BookReply) → i < length h → p ≡ get_or h i p → published_cycles (take (i + 1) h) ≡ published_cycles (take i h) ++ published_cycle p.1

@@ -1,5 +1,5 @@
 -- A run of all calls is one of the first of them.
-use Rattle.std.proofs.Common.{◌≡◌, List, [], length, take, Result, Ok, Err, OnErr, sym, subst, arith}
+use Rattle.std.proofs.Common.{◌≡◌, List, [], length, Result, Ok, Err, OnErr, sym, subst, arith}
 use Rattle.std.proofs.lemmas.List.{take_all}
 use Rattle.gd_course.specs.Course.{Runs, RunsInPart}
 use Rattle.gd_day.specs.Calls.{Call}

@@ -1,9 +1,9 @@
--- What is told where nothing is opened, and of a text that can't be read.
-use Rattle.std.proofs.Common.{◌≡◌, ◌≢◌, ◌⊎◌, ℕ, List, Option, Some, None, Result, Ok, Err, IfSome, IfOk, refl, sym, subst, inl, inr}
+-- What is told where nothing is opened.
+use Rattle.std.proofs.Common.{◌≡◌, ◌≢◌, ℕ, List, Option, None, Result, Ok, Err, IfOk, refl, sym, subst, inl, inr}
 use Rattle.sqlite.specs.Held.{Held}
 use Rattle.sqlite.specs.declared.error.Error.{Error}
 use Rattle.sqlite_trees.specs.declared.store.Store.{Ghosts}
-use Rattle.gd_text_part.specs.Texts.{Tells as TellsOfRows, BlamesNoRow, rows_of, IsWithin, IsTooLong, HasManyBytes, HasManyRows}
+use Rattle.gd_text_part.specs.Texts.{Tells as TellsOfRows}
 use Rattle.gd_text_part.specs.declared.fault.RowFault.{RowFault}
 use Rattle.gd_text_part.specs.declared.fault.TextFault.{TextFault}
 use Rattle.gd_text_part.specs.declared.fault.TextFault.TheVariants as fault
@@ -12,7 +12,7 @@ use Rattle.gd_text_part.specs.declared.row.Row.{Row}
 use Rattle.gasday_part.specs.AnswerSeen.{answer_seen}
 use Rattle.gasday_part.specs.Answers.{Told, one, fault_answer, no_memory}
 use Rattle.gasday_part.specs.declared.answer.Answer.{Answer}
-use Rattle.gasday_archive.specs.Runs.{Tells, OrNoMemory, TellsBytes, TellsRows, TellsText}
+use Rattle.gasday_archive.specs.Runs.{Tells, OrNoMemory, TellsBytes, TellsRows}
 
 tells : {E : Type 0} (P : Told → Type 0) (r : Result Answer E) → IfOk r (λ a. P (answer_seen a)) → P (one no_memory 2) → Tells P r
 tells P (Ok a) means memory = record { told = answer_seen a; means = means; is = refl }
@@ -44,33 +44,10 @@ module _ {S : Type 0} (g : Ghosts S) (gives : Result (Held S) Error → Type 0) 
   bytes_refused view text fault.ReadFailed blamed other = absurd blamed
   bytes_refused view text fault.OutOfMemory blamed other = absurd (other refl)
 
-  too_long : (text : List ℕ) → IsTooLong text → HasManyBytes text ⊎ HasManyRows text
-  too_long text (inl bytes) = inl (inl bytes)
-  too_long text (inr rows) = inr rows
-
-  read : (text : List ℕ) (left : Option (Held S)) (a : Told) → TellsBytes g gives text left a → TellsText g gives text left a
-  read text left a (inl within) = inl within
-  read text left a (inr long) = inr (inl (too_long text long.0, long.1, long.2))
-
-  -- the bytes that a reader gave are its text
-  pub read_so : {E : Type 0} (known : Option (List ℕ)) (bytes : List ℕ) (left : Option (Held S)) (r : Result Answer E) → IfSome known (λ text. bytes ≡ text) → Tells (OrNoMemory (TellsBytes g gives bytes) left) r → IfSome known (λ text. Tells (OrNoMemory (TellsText g gives text) left) r)
-  read_so None bytes left r same t = tt
-  read_so (Some text) bytes left r same t =
-      subst (λ (all : List ℕ). Tells (OrNoMemory (TellsText g gives all) left) r) same (told_so (TellsBytes g gives bytes) (TellsText g gives bytes) left r (read bytes left) t)
-
-  refused_at : (text : List ℕ) (f : TextFault) → BlamesNoRow (HasManyBytes text) f → f ≢ fault.OutOfMemory → TellsText g gives text None (fault_answer f)
-  refused_at text fault.ReadFailed blamed other = inr (inr (refl, refl))
-  refused_at text fault.TooLong blamed other = inr (inl (inl blamed, refl, refl))
-  refused_at text (fault.Row n c) blamed other = absurd blamed
-  refused_at text fault.OutOfMemory blamed other = absurd (other refl)
-
-  -- a reader's fault
-  pub read_refused : {E : Type 0} (known : Option (List ℕ)) (f : TextFault) (left : Option (Held S)) (answer r : Result Answer E) → BlamesNoRow (IfSome known HasManyBytes) f → left ≡ None → r ≡ answer
-      → IfOk answer (λ a. (f ≢ fault.OutOfMemory) × (answer_seen a ≡ fault_answer f)) → IfSome known (λ text. Tells (OrNoMemory (TellsText g gives text) left) r)
-  read_refused {E} None f left answer r blamed closed is told = tt
-  read_refused {E} (Some text) f left answer r blamed closed is told =
-      unopened (TellsText g gives text) left answer r closed is (means answer told)
-    where
-      means : (x : Result Answer E) → IfOk x (λ a. (f ≢ fault.OutOfMemory) × (answer_seen a ≡ fault_answer f)) → IfOk x (λ a. TellsText g gives text None (answer_seen a))
-      means (Ok a) told = subst (TellsText g gives text None) (sym told.1) (refused_at text f blamed told.0)
-      means (Err e) told = tt
+-- an answer to a text, for which nothing is opened
+pub alone : {S E : Type 0} (P : Told → Type 0) (left : Option (Held S)) (answer r : Result Answer E) → left ≡ None → r ≡ answer → IfOk answer (λ a. P (answer_seen a)) → Tells (OrNoMemory (λ (o : Option (Held S)) a. (o ≡ None) × P a) left) r
+alone {S} {E} P left answer r closed is means = unopened (λ (o : Option (Held S)) a. (o ≡ None) × P a) left answer r closed is (may answer means)
+  where
+    may : (x : Result Answer E) → IfOk x (λ a. P (answer_seen a)) → IfOk x (λ a. (λ (o : Option (Held S)) (b : Told). (o ≡ None) × P b) None (answer_seen a))
+    may (Ok a) told = (refl, told)
+    may (Err e) told = tt

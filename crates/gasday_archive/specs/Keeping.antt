@@ -1,5 +1,5 @@
 -- What a gas day published is kept.
-use Rattle.std.specs.Prelude.{◌≡◌, ◌≤◌, ◌⊎◌, ℕ, IsSome, ◌==◌, max, Bool, true, false, List, [], ◌∷◌, ◌++◌, fold, flat_map, slice_get, take, Option, Some, Result, Ok, Err}
+use Rattle.std.specs.Prelude.{◌≡◌, ◌≤◌, ◌⊎◌, ℕ, IsSome, ◌==◌, max, Bool, true, false, List, [], ◌∷◌, ◌++◌, fold, flat_map, slice_get, take, Some, Result, Ok, Err}
 use Rattle.sqlite_trees.specs.declared.store.Store.{Ghosts}
 use Rattle.sqlite.specs.Held.{Held, state}
 use Rattle.sqlite.specs.State.{State}

@@ -1,25 +1,22 @@
--- What a run writes by its order.
-use Rattle.std.specs.Prelude.{◌≡◌, ℕ, List, Option, None, Result, IfSome, ⊤}
+-- What an order is answered.
+use Rattle.std.specs.Prelude.{◌≡◌, ℕ, List, Option, None, Result}
 use Rattle.sqlite_trees.specs.declared.store.Store.{Ghosts}
 use Rattle.sqlite.specs.Held.{Held}
 use Rattle.sqlite.specs.declared.error.Error.{Error}
 use Rattle.gasday_words.specs.Ordered.{Ordered, Text, ArchivedDay, Audit, Migrate}
-use Rattle.gasday_part.specs.Output.{Answers}
-use Rattle.gasday_archive.specs.Runs.{TellsAudit, TellsMigration, TellsOpened, TellsText, OrNoMemory, WritesTold}
+use Rattle.gasday_words.specs.declared.order.Command.{Command}
+use Rattle.gasday_part.specs.Answers.{Told, AnswersBytes}
+use Rattle.gasday_archive.specs.Runs.{TellsAudit, TellsMigration, TellsOpened, TellsBytes, OrNoMemory}
 
--- What is written of an order, where the bytes that the reader has left are known or not. A command's answer to them, and nothing
--- else, and no archive comes back. For a gas day what is told of them and of the archive that the opener gives, or that memory
--- ran out before. For the other two, which read nothing, what is told of that archive.
-abbrev pub Runs : {S : Type 0} → Ghosts S → (Result (Held S) Error → Type 0) → Ordered → Option (List ℕ) → Option (Held S) → Option (List ℕ) → Option (List ℕ) → ℕ → Type 0
-Runs g gives (Text command) known left old new status = (left ≡ None) × IfSome known (λ text. Answers command text old new status)
-Runs g gives (ArchivedDay file) known left old new status =
-    IfSome known (λ text. WritesTold (OrNoMemory (TellsText g gives text) left) old new status)
-Runs g gives (Audit file) known left old new status = WritesTold (TellsOpened g gives (TellsAudit g) left) old new status
-Runs g gives (Migrate file) known left old new status = WritesTold (TellsOpened g gives (TellsMigration g) left) old new status
+-- a command's answer to the bytes of a text; no archive comes back
+abbrev pub AnswersCommand : {S : Type 0} → Command → List ℕ → Option (Held S) → Told → Type 0
+AnswersCommand command text left a = (left ≡ None) × AnswersBytes command text a
 
--- an order that is carried out on its archive alone
-abbrev pub NeedsNoText : Ordered → Type 0
-NeedsNoText (Text command) = ⊥
-NeedsNoText (ArchivedDay file) = ⊥
-NeedsNoText (Audit file) = ⊤
-NeedsNoText (Migrate file) = ⊤
+-- What an order is answered, whose text has these bytes. A command its answer to them, and a gas day what is told of them and of
+-- the archive that the opener gives, or that memory ran out before. The other two, which read nothing, what is told of that
+-- archive.
+abbrev pub Answers : {S : Type 0} → Ghosts S → (Result (Held S) Error → Type 0) → Ordered → List ℕ → Option (Held S) → Told → Type 0
+Answers g gives (Text command) text left a = OrNoMemory (AnswersCommand command text) left a
+Answers g gives (ArchivedDay file) text left a = OrNoMemory (TellsBytes g gives text) left a
+Answers g gives (Audit file) text left a = TellsOpened g gives (TellsAudit g) left a
+Answers g gives (Migrate file) text left a = TellsOpened g gives (TellsMigration g) left a

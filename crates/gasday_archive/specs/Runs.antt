@@ -2,7 +2,7 @@
 use Rattle.std.specs.Prelude.{◌≡◌, ◌≢◌, ◌⊎◌, ℕ, List, [], ◌∷◌, ◌++◌, Option, Some, None, Result, Ok, Err, IfOk}
 use Rattle.sqlite_trees.specs.declared.store.Store.{Ghosts}
 use Rattle.sqlite.specs.Held.{Held, state}
-use Rattle.sqlite.specs.State.{State, HasCleanDisk}
+use Rattle.sqlite.specs.State.{HasCleanDisk}
 use Rattle.sqlite.specs.declared.error.Error.{Error}
 use Rattle.gd_archive.specs.Calls as archive
 use Rattle.gd_archive.specs.declared.fault.AuditFault.{AuditFault}
@@ -16,7 +16,7 @@ use Rattle.gd_machine.specs.Day.{Day}
 use Rattle.gd_machine.specs.Headline.{Holds}
 use Rattle.gd_machine.specs.History.{History}
 use Rattle.gd_replies.specs.declared.reply.Reply.{Reply}
-use Rattle.gd_text_part.specs.Texts.{rows_of, IsWithin, IsTooLong, HasManyBytes, HasManyRows}
+use Rattle.gd_text_part.specs.Texts.{rows_of, IsWithin, IsTooLong}
 use Rattle.gd_text_part.specs.declared.fault.RowFault.{RowFault}
 use Rattle.gd_text_part.specs.declared.fault.TextFault.{TextFault}
 use Rattle.gd_text_part.specs.declared.fault.TextFault.TheVariants as fault
@@ -25,7 +25,6 @@ use Rattle.gd_text_part.specs.declared.row.Row.{Row}
 use Rattle.gd_text.specs.Building.{row_fault}
 use Rattle.gasday_part.specs.AnswerSeen.{answer_seen}
 use Rattle.gasday_part.specs.Answers.{Told, one, refused, fault_answer, no_memory, no_calendar, day_in, IsCalendarIn, ExplainsDay}
-use Rattle.gasday_part.specs.Output.{Written}
 use Rattle.gasday_part.specs.declared.answer.Answer.{Answer}
 use Rattle.gasday_part.specs.declared.day.DayFault.{DayFault}
 use Rattle.gasday_part.specs.declared.day.DayFault.TheVariants as no
@@ -108,13 +107,6 @@ module _ {S : Type 0} (g : Ghosts S) where
         (IsWithin text × TellsRows (rows_of form.Day text) left a)
         ⊎ (IsTooLong text × (left ≡ None) × (a ≡ fault_answer fault.TooLong))
 
-    -- The same of what is read, which may also be told as not read.
-    abbrev pub TellsText : List ℕ → Option (Held S) → Told → Type 0
-    TellsText text left a =
-        (IsWithin text × TellsRows (rows_of form.Day text) left a)
-        ⊎ ((HasManyBytes text ⊎ HasManyRows text) × (left ≡ None) × (a ≡ fault_answer fault.TooLong))
-        ⊎ ((left ≡ None) × (a ≡ fault_answer fault.ReadFailed))
-
 -- that, or that memory ran out, and then no archive comes back
 abbrev pub OrNoMemory : {S : Type 0} → (Option (Held S) → Told → Type 0) → Option (Held S) → Told → Type 0
 OrNoMemory tells left a = tells left a ⊎ ((left ≡ None) × (a ≡ one no_memory 2))
@@ -124,7 +116,3 @@ pub record Tells {E : Type 0} (P : Told → Type 0) (r : Result Answer E) : Type
   pub told : Told
   pub means : P told
   pub is : IfOk r (λ a. answer_seen a ≡ told)
-
--- what is written is what is told
-abbrev pub WritesTold : (Told → Type 0) → Option (List ℕ) → Option (List ℕ) → ℕ → Type 0
-WritesTold tells old new status = (a : Told) × tells a × Written old new status a

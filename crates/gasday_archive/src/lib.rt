@@ -7,5 +7,5 @@ mod engine;
 mod keeps;
 mod opened;
 
-pub use engine::{Ran, run};
-pub use opened::Opener;
+pub use engine::answer_to;
+pub use opened::{Opener, Outcome};

@@ -1,6 +1,6 @@
 //! What is done with an archive that the opener gives.
 
-ghost use Rattle.std.specs.Prelude.{◌≡◌, [], None, IfSome};
+ghost use Rattle.std.specs.Prelude.{◌≡◌, [], None};
 ghost use Rattle.gd_day.specs.Calls.{calls_of};
 ghost use Rattle.gd_day.specs.Groups.{AllPass};
 ghost use Rattle.gd_day.specs.Opening.{opened_of};
@@ -12,10 +12,9 @@ use gasday_part::{Answer, calendar_of, of_fault, of_no_calendar};
 use gd_archive::{audit, migrate};
 use gd_book::Book;
 use gd_day::{DayText, day_text_of};
-use gd_text_part::{Form, Row, read_bytes, rows_in};
+use gd_text_part::{Form, Row, rows_in};
 use sqlite::{Alter, Connection, Error};
 use std::alloc::{AllocError, Global};
-use std::io::Read;
 use std::thread::Threads;
 
 /// Who opens the archive of an order.
@@ -32,16 +31,16 @@ pub trait Opener<S: Alter + Drop>: Drop {
         ensures { opens self result };
 }
 
-/// What is told, and the archive that was opened, as it is left. The only error is want of memory.
+/// What is told, and the archive that was opened, as it is left, to be closed. The only error is want of memory.
 #[derive(Drop)]
-pub(crate) struct Outcome<S: Alter + Drop> {
-    pub(crate) answer: Result<Answer, AllocError>,
-    pub(crate) archive: Option<Connection<S>>,
+pub struct Outcome<S: Alter + Drop> {
+    pub answer: Result<Answer, AllocError>,
+    pub archive: Option<Connection<S>>,
 }
 
 impl<S: Alter + Drop> Outcome<S> {
     /// An answer for which nothing is open.
-    fn unopened(answer: Result<Answer, AllocError>) -> Outcome<S>
+    pub fn unopened(answer: Result<Answer, AllocError>) -> Outcome<S>
         ensures answer { result.answer ≡ answer }
         ensures archive { result.archive ≡ None }
     {
@@ -174,7 +173,7 @@ fn tell_rows<S: Alter + Drop, O: Opener<S>>(
 }
 
 /// The course of the gas day of these bytes, in the archive that the opener gives.
-fn tell_bytes<S: Alter + Drop, O: Opener<S>>(
+pub(crate) fn tell_day<S: Alter + Drop, O: Opener<S>>(
     rt: &(impl Threads + Sync),
     alloc: Global,
     text: &[u8],
@@ -185,22 +184,6 @@ fn tell_bytes<S: Alter + Drop, O: Opener<S>>(
 {
     match rows_in(alloc, Form::Day, text) {
         Ok(rows) => tell_rows(rt, alloc, rows.as_slice(), opener),
-        Err(fault) => Outcome::unopened(of_fault(alloc, fault)),
-    }
-}
-
-/// The course of the gas day that a reader's text tells, in the archive that the opener gives.
-pub(crate) fn tell_day<S: Alter + Drop, R: Read, O: Opener<S>>(
-    rt: &(impl Threads + Sync),
-    alloc: Global,
-    reader: &mut R,
-    opener: O,
-) -> Outcome<S>
-    ensures { IfSome (R.remaining reader.old) (λ text. spec.Tells (spec.OrNoMemory (spec.TellsText S.Store
-        (O.Opener.opens opener) text) result.archive) result.answer) }
-{
-    match read_bytes(alloc, reader) {
-        Ok(text) => tell_bytes(rt, alloc, text.as_slice(), opener),
         Err(fault) => Outcome::unopened(of_fault(alloc, fault)),
     }
 }

@@ -13,7 +13,7 @@ use Rattle.gd_replies.specs.declared.reply.Reply.TheVariants as reply
 use Rattle.gd_text_part.specs.declared.kind.Form.TheVariants as form
 use Rattle.gd_text_part.specs.declared.fault.TextFault.{TextFault}
 use Rattle.gd_text_part.specs.declared.row.Row.{Row}
-use Rattle.gasday_part.specs.Answers.{Told, fault_answer, refused, no_calendar, no_memory, day_in, IsCalendarIn, ExplainsDay, MayBeAnswered}
+use Rattle.gasday_part.specs.Answers.{Told, fault_answer, refused, no_calendar, no_memory, day_in, IsCalendarIn, ExplainsDay, BytesAnswered}
 use Rattle.gasday_part.specs.declared.day.DayFault.{DayFault}
 use Rattle.gasday_part.specs.declared.day.DayFault.TheVariants as no
 
@@ -67,6 +67,6 @@ AnswersDays rows (Err f) a = a ≡ fault_answer f
 abbrev pub AnswersOffice : List Row → Told → Type 0
 AnswersOffice rows a = AnswersDays rows (days_of rows) a
 
--- What may be answered to an office's text.
-abbrev pub MayAnswerOffice : List ℕ → Told → Type 0
-MayAnswerOffice text a = MayBeAnswered form.Office AnswersOffice text a
+-- What the bytes of an office's text are answered.
+abbrev pub AnswersOfficeBytes : List ℕ → Told → Type 0
+AnswersOfficeBytes text a = BytesAnswered form.Office AnswersOffice text a

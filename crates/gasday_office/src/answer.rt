@@ -1,10 +1,8 @@
 //! What the command answers.
 
-ghost use Rattle.std.specs.Prelude.{◌≡◌, ◌++◌, ◌∷◌, [], IfOk, IfSome, Ok, map, vec_len, length as len_of};
+ghost use Rattle.std.specs.Prelude.{◌≡◌, ◌++◌, ◌∷◌, [], IfOk, Ok, map, vec_len, length as len_of};
 ghost use Rattle.gd_office.specs.Slots.{AreDaysOf};
 ghost use Rattle.gd_office_text.specs.Days.{days_of as days_by, opened};
-ghost use Rattle.gd_text_part.specs.declared.kind.Form.TheVariants as form;
-ghost use Rattle.gasday_part.specs.Answers.{BytesAnswered, MayBeAnswered};
 ghost use Rattle.gasday_part.specs.AnswerSeen.{answer_seen};
 ghost use Rattle.gasday_office.specs.Offices as spec;
 
@@ -18,9 +16,8 @@ use gd_office_part::{Days, Phase};
 use gd_office_run::{RunFault, run};
 use gd_office_text::{calls_in, days_of, phases_of};
 use gd_replies::Reply;
-use gd_text_part::{Form, Row, read_bytes, rows_in};
+use gd_text_part::{Form, Row, rows_in};
 use std::alloc::{AllocError, Global};
-use std::io::Read;
 use std::marker::Brand;
 use std::sync::Wait;
 use std::thread::Threads;
@@ -129,31 +126,18 @@ fn tell_office<R: Threads + Wait + Clock + Sync>(
     }
 }
 
-/// What the bytes of an office's text are answered. The only error is want of memory.
-fn answer_of<R: Threads + Wait + Clock + Sync>(
+/// What the bytes of an office's text are answered: its exit status is 0 where all slots are reconciled, 1 where one is not or a
+/// gas day has no calendar, 2 after a fault of the text, memory or a thread. The only error is want of memory. It waits for
+/// threads and locks.
+pub fn answer_office<R: Threads + Wait + Clock + Sync>(
     rt: &R,
     alloc: Global,
     text: &[u8],
 ) -> Result<Answer, AllocError>
-    ensures { IfOk result (λ a. BytesAnswered form.Office spec.AnswersOffice text.now (answer_seen a)) }
+    ensures { IfOk result (λ a. spec.AnswersOfficeBytes text.now (answer_seen a)) }
 {
     match rows_in(alloc, Form::Office, text) {
         Ok(rows) => tell_office(rt, alloc, rows.as_slice()),
-        Err(fault) => of_fault(alloc, fault),
-    }
-}
-
-/// What all that a reader has left is answered: its bytes, or the fault of reading them.
-pub(crate) fn answer_to<T: Threads + Wait + Clock + Sync, R: Read>(
-    rt: &T,
-    alloc: Global,
-    reader: &mut R,
-) -> Result<Answer, AllocError>
-    ensures { IfSome (R.remaining reader.old) (λ text. IfOk result
-        (λ a. MayBeAnswered form.Office spec.AnswersOffice text (answer_seen a))) }
-{
-    match read_bytes(alloc, reader) {
-        Ok(text) => answer_of(rt, alloc, text.as_slice()),
         Err(fault) => of_fault(alloc, fault),
     }
 }

@@ -1,10 +1,9 @@
-//! The command `office` of the program `gasday`: from the bytes of a text to the bytes of its answer.
+//! The command `office` of the program `gasday`: what the bytes of a text are answered.
 //!
 //! It stands apart from the other commands, since it alone waits for locks.
 #![tactic(auto)]
 
 mod answer;
 mod books;
-mod engine;
 
-pub use engine::run_office;
+pub use answer::answer_office;

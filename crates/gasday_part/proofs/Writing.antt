@@ -7,15 +7,9 @@ use Rattle.std.proofs.lemmas.List.{take-append-drop, take_more, take_all, append
 use Rattle.std.proofs.Math.Seq.{take-append-add, take-append_seam}
 use Rattle.gd_replies.specs.declared.reply.Reply.{Reply}
 use Rattle.gd_replies.specs.Lines.{line_of, lines_of}
-use Rattle.std.proofs.Common.{Some, None, IfSome, Result, Ok, Err, IfOk}
 use Rattle.std.proofs.KnownBytes.{Appends-nil}
-use Rattle.gd_text_part.specs.declared.fault.TextFault.TheVariants as fault
-use Rattle.gd_text_part.specs.declared.kind.Form.{Form}
-use Rattle.gd_text_part.specs.declared.row.Row.{Row}
-use Rattle.gasday_part.specs.declared.answer.Answer.{Answer}
-use Rattle.gasday_part.specs.AnswerSeen.{answer_seen}
-use Rattle.gasday_part.specs.Answers.{Told, MayBeAnswered, fault_answer, no_memory}
-use Rattle.gasday_part.specs.Output.{WritesAnswer, Written}
+use Rattle.gasday_part.specs.Answers.{Told, no_memory}
+use Rattle.gasday_part.specs.Output.{Written}
 
 lines-append : (a b : List Reply) → lines_of (a ++ b) ≡ lines_of a ++ lines_of b
 lines-append a b = flat_map-append line_of a b
@@ -63,16 +57,6 @@ is_done old new answer i le told = inl (rw (take_all i answer.replies le) at tol
 -- memory ran out before there was any reply
 pub told_none : (old new : Option (List ℕ)) (answer : Told) (n : ℕ) → Appends old new (take n (lines_of (no_memory ∷ []))) → Written old new 2 answer
 told_none old new answer n now = no_memory_after old old new answer 0 n (Appends-nil old) now
-
--- what was written of an answer, or of none, is an answer to the text
-pub answers : {E : Type 0} (form : Form) (P : List Row → Told → Type 0) (known old new : Option (List ℕ)) (status : ℕ) (answer : Result Answer E)
-    → IfSome known (λ text. IfOk answer (λ a. MayBeAnswered form P text (answer_seen a)))
-    → ((told : Told) → IfOk answer (λ a. answer_seen a ≡ told) → Written old new status told)
-    → IfSome known (λ text. WritesAnswer (MayBeAnswered form P) text old new status)
-answers form P None old new status answer may writes = tt
-answers form P (Some text) old new status (Ok a) may writes = (answer_seen a, may, writes (answer_seen a) refl)
-answers form P (Some text) old new status (Err e) may writes =
-    let a = fault_answer fault.ReadFailed in (a, inr (inr refl), writes a tt)
 
 -- ---- replies with more behind them
 

@@ -1,5 +1,5 @@
 -- What a command answers to a text.
-use Rattle.std.specs.Prelude.{◌≡◌, ◌≢◌, ◌⊎◌, ℕ, ℤ, pos, map, List, [], ◌∷◌, ◌++◌, Result, Ok, Err, ⊤}
+use Rattle.std.specs.Prelude.{◌≡◌, ◌≢◌, ◌⊎◌, ℕ, ◌-◌, ℤ, pos, map, List, [], ◌∷◌, ◌++◌, length, slice_get, Option, Result, Ok, Err, ⊤}
 use Rattle.std.specs.Option.{IsSome}
 use Rattle.jiff.specs.Words.{IsYmd, read_whole}
 use Rattle.jiff.specs.Placed.{IsPosixZone}
@@ -21,7 +21,7 @@ use Rattle.gd_certificate.specs.declared.cut.CutFault.{CutFault}
 use Rattle.gd_question.specs.Posing.{Posed}
 use Rattle.gd_schedule.specs.Exact.{Explains}
 use Rattle.gd_schedule.specs.declared.Broken.{Broken}
-use Rattle.gd_text_part.specs.Texts.{rows_of, IsWithin, IsTooLong, HasManyBytes, HasManyRows}
+use Rattle.gd_text_part.specs.Texts.{rows_of, IsWithin, IsTooLong}
 use Rattle.gd_text_part.specs.declared.row.Row.{Row}
 use Rattle.gd_text_part.specs.declared.fault.RowFault.{RowFault}
 use Rattle.gd_text_part.specs.declared.fault.TextFault.{TextFault}
@@ -238,13 +238,6 @@ BytesAnswered form answers text a =
 abbrev pub AnswersBytes : Command → List ℕ → Told → Type 0
 AnswersBytes k text a = BytesAnswered (form_of k) (AnswersRows k) text a
 
--- What may be answered to a text of this form, where rows are answered so: what its rows say, where it is within its limits;
--- that it is too long, where it is; or that it could not be read.
-abbrev pub MayBeAnswered : Form → (List Row → Told → Type 0) → List ℕ → Told → Type 0
-MayBeAnswered form answers text a =
-    (IsWithin text × AnswersText answers (rows_of form text) a)
-    ⊎ ((HasManyBytes text ⊎ HasManyRows text) × (a ≡ fault_answer fault.TooLong))
-    ⊎ (a ≡ fault_answer fault.ReadFailed)
-
-abbrev pub MayAnswer : Command → List ℕ → Told → Type 0
-MayAnswer k text a = MayBeAnswered (form_of k) (AnswersRows k) text a
+-- the row with which an answer ends
+abbrev pub last_of : List Reply → Option Reply
+last_of rows = slice_get rows (length rows - 1)

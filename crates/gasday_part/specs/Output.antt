@@ -2,8 +2,7 @@
 use Rattle.std.specs.Prelude.{◌≡◌, ◌⊎◌, ℕ, List, [], ◌∷◌, ◌++◌, Option, take}
 use Rattle.std.specs.Io.KnownBytes.{Appends}
 use Rattle.gd_replies.specs.Lines.{lines_of}
-use Rattle.gasday_words.specs.declared.order.Command.{Command}
-use Rattle.gasday_part.specs.Answers.{Told, MayAnswer, no_memory}
+use Rattle.gasday_part.specs.Answers.{Told, no_memory}
 
 -- What was written of an answer, and the exit status. All of it. Or memory ran out, and what was written are the first of
 -- its rows, whole, and bytes at the front of the row that tells that memory ran out. Or the writer failed, and what was
@@ -14,10 +13,6 @@ Written old new status a =
     ⊎ ((n m : ℕ) × Appends old new (lines_of (take n a.replies) ++ take m (lines_of (no_memory ∷ []))) × (status ≡ 2))
     ⊎ ((m : ℕ) × Appends old new (take m (lines_of a.replies)) × (status ≡ 2))
 
--- What is written to a text that may be answered so: an answer to it, and nothing else.
-abbrev pub WritesAnswer : (List ℕ → Told → Type 0) → List ℕ → Option (List ℕ) → Option (List ℕ) → ℕ → Type 0
-WritesAnswer may text old new status = (a : Told) × may text a × Written old new status a
-
--- what a run of a command over a text writes: an answer to it, and nothing else
-abbrev pub Answers : Command → List ℕ → Option (List ℕ) → Option (List ℕ) → ℕ → Type 0
-Answers command text old new status = WritesAnswer (MayAnswer command) text old new status
+-- What is written where an answer is one of these: one of them, and nothing else.
+abbrev pub WritesTold : (Told → Type 0) → Option (List ℕ) → Option (List ℕ) → ℕ → Type 0
+WritesTold tells old new status = (a : Told) × tells a × Written old new status a

@@ -1,6 +1,6 @@
 //! What a command answers to a text.
 
-ghost use Rattle.std.specs.Prelude.{◌≡◌, ◌≢◌, [], ◌∷◌, IfOk, IfSome};
+ghost use Rattle.std.specs.Prelude.{◌≡◌, ◌≢◌, [], ◌∷◌, IfOk};
 ghost use Rattle.gd_text_part.specs.declared.fault.TextFault.TheVariants.{OutOfMemory};
 ghost use Rattle.gd_text.specs.Values.{asked_of as asked_by};
 ghost use Rattle.gasday_part.specs.Answers as spec;
@@ -13,9 +13,8 @@ use crate::solve::tell_solved;
 use gasday_words::Command;
 use gd_replies::{Reply, allowed_replies, broken_reply};
 use gd_text::{Asked, asked_of};
-use gd_text_part::{Form, Row, TextFault, read_bytes, rows_in};
+use gd_text_part::{Form, Row, TextFault, rows_in};
 use std::alloc::{AllocError, Global};
-use std::io::Read;
 use std::thread::Threads;
 
 /// The rows that answer a text, and the exit status that goes with them.
@@ -37,6 +36,16 @@ impl Answer {
             status,
             short: false,
         }
+    }
+}
+
+/// The row with which an answer ends; where there was no memory for one, that is told in its place.
+pub fn last_of(answer: &Result<Answer, AllocError>) -> Option<Reply>
+    ensures { IfOk answer.now (λ a. result ≡ spec.last_of (answer_seen a).replies) }
+{
+    match answer {
+        Ok(answer) if !answer.short => answer.replies.as_slice().last().copied(),
+        _ => Some(Reply::Fault(TextFault::OutOfMemory)),
     }
 }
 
@@ -124,7 +133,8 @@ fn answer_to_rows(
 
 /// What a command answers to the bytes of a text. The only error is want of memory.
 ///
-/// This is all that a command does between reading and printing. It asks for a command other than `office`.
+/// This is all that a command does between reading and printing. It asks for a command other than `office`, which waits for
+/// locks.
 pub fn answer_of(
     rt: &(impl Threads + Sync),
     alloc: Global,
@@ -136,23 +146,6 @@ pub fn answer_of(
 {
     match rows_in(alloc, form_of(command), text) {
         Ok(rows) => answer_to_rows(rt, alloc, command, rows.as_slice()),
-        Err(fault) => of_fault(alloc, fault),
-    }
-}
-
-/// What a command answers to all that a reader has left: to its bytes, or to the fault of reading them.
-pub(crate) fn answer_to<R: Read>(
-    rt: &(impl Threads + Sync),
-    alloc: Global,
-    command: Command,
-    reader: &mut R,
-) -> Result<Answer, AllocError>
-    requires { command ≢ Command.Office }
-    ensures { IfSome (R.remaining reader.old) (λ text. IfOk result
-        (λ a. spec.MayAnswer command text (answer_seen a))) }
-{
-    match read_bytes(alloc, reader) {
-        Ok(text) => answer_of(rt, alloc, command, text.as_slice()),
         Err(fault) => of_fault(alloc, fault),
     }
 }

@@ -1,19 +1,17 @@
-//! A command from the bytes of a reader to the bytes of a writer.
+//! An answer from its rows to the bytes of a writer.
 
-ghost use Rattle.std.specs.Prelude.{◌≡◌, ◌≢◌, ◌≤◌, ℕ, [], ◌∷◌, ◌++◌, IfSome, IfOk, length, take};
+ghost use Rattle.std.specs.Prelude.{◌≡◌, ◌≤◌, ℕ, [], ◌∷◌, ◌++◌, IfOk, length, take};
 ghost use Rattle.std.specs.Io.KnownBytes.{Appends};
 ghost use Rattle.gd_replies.specs.Lines.{lines_of};
 ghost use Rattle.gasday_part.specs.AnswerSeen.{answer_seen, last_row};
 ghost use Rattle.gasday_part.specs.Answers.{Told, no_memory};
-ghost use Rattle.gasday_part.specs.Output.{Answers, Written};
+ghost use Rattle.gasday_part.specs.Output.{Written};
 
-use crate::answer::{Answer, answer_to};
-use gasday_words::Command;
+use crate::answer::Answer;
 use gd_replies::Reply;
 use gd_text_part::write_bytes;
 use std::alloc::{AllocError, Global};
-use std::io::{Read, Write};
-use std::thread::Threads;
+use std::io::Write;
 
 /// Prints replies in order, and behind them that memory ran out, where it did. Answers the status, or 2 where not all was
 /// written.
@@ -46,14 +44,17 @@ fn tell_no_memory<W: Write>(writer: &mut W) -> u8
     2
 }
 
-/// Prints an answer. Where there was no memory for one, that is printed in its place. Answers the status, or 2 where not all
-/// was written.
+/// Prints an answer and nothing else. Where there was no memory for one, that is printed in its place. Answers the exit status:
+/// that of the answer, or 2 where not all of it was written.
+///
+/// Where memory runs out, the first rows of the answer are followed by `fault,0,OutOfMemory` or by nothing. After a failed
+/// write nothing more is written.
 pub fn write_answer<W: Write>(
     alloc: Global,
     writer: &mut W,
-    answer: Result<Answer, AllocError>,
+    answer: &Result<Answer, AllocError>,
 ) -> u8
-    ensures { (told : Told) → IfOk answer (λ a. answer_seen a ≡ told)
+    ensures { (told : Told) → IfOk answer.now (λ a. answer_seen a ≡ told)
         → Written (W.contents writer.old) (W.contents writer.new) result told }
 {
     match answer {
@@ -66,24 +67,4 @@ pub fn write_answer<W: Write>(
         ),
         Err(_) => tell_no_memory(writer),
     }
-}
-
-/// Reads a text, writes the command's answer to it and nothing else, and answers the exit status: 0 where the answer
-/// is good, 1 where a schedule is broken or none is allowed, 2 after a fault of the text, the reader, the writer or memory.
-///
-/// Where memory runs out, the first rows of the answer are followed by `fault,0,OutOfMemory` or by nothing. After a
-/// failed write nothing more is written. It asks for a command other than `office`, which waits for locks.
-pub fn run<R: Read, W: Write>(
-    rt: &(impl Threads + Sync),
-    alloc: Global,
-    command: Command,
-    reader: &mut R,
-    writer: &mut W,
-) -> u8
-    requires { command ≢ Command.Office }
-    ensures { IfSome (R.remaining reader.old)
-        (λ text. Answers command text (W.contents writer.old) (W.contents writer.new) result) }
-{
-    let answer = answer_to(rt, alloc, command, reader);
-    write_answer(alloc, writer, answer)
 }

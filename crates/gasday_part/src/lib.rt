@@ -1,4 +1,4 @@
-//! The engine of the program `gasday`: from the bytes of a text to the bytes of a command's answer.
+//! The engine of the program `gasday`: from the bytes of a text to a command's answer, and from an answer to its bytes.
 #![tactic(auto)]
 
 mod answer;
@@ -8,6 +8,6 @@ mod day;
 mod engine;
 mod solve;
 
-pub use answer::{Answer, answer_of, of_fault, of_one};
+pub use answer::{Answer, answer_of, last_of, of_fault, of_one};
 pub use day::{DayFault, calendar_of, of_no_calendar};
-pub use engine::{run, write_answer};
+pub use engine::write_answer;

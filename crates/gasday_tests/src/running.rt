@@ -1,7 +1,8 @@
-//! `run` from text to answer, with readers and writers that do little or fail.
+//! From the bytes of a reader to the bytes of a writer, with readers and writers that do little or fail.
 
-use gasday_part::run;
+use gasday_part::{answer_of, of_fault, write_answer};
 use gasday_words::Command;
+use gd_text_part::read_bytes;
 use std::alloc::{AllocError, Global};
 use std::io;
 use std::io::{Read, Write};
@@ -129,14 +130,28 @@ impl Write for SlowWriter {
     }
 }
 
+/// Reads a text, and writes what `check allowed` answers to it. The status.
+fn run<R: Read, W: Write>(
+    rt: &(impl Threads + Sync),
+    alloc: Global,
+    reader: &mut R,
+    writer: &mut W,
+) -> u8 {
+    let answer = match read_bytes(alloc, reader) {
+        Ok(text) => answer_of(rt, alloc, Command::CheckAllowed, text.as_slice()),
+        Err(fault) => of_fault(alloc, fault),
+    };
+    write_answer(alloc, writer, &answer)
+}
+
 /// The status and the answer to what a reader gives.
-fn answer_of(
+fn told_of(
     rt: &(impl Threads + Sync),
     alloc: Global,
     mut reader: SlowReader<'_>,
 ) -> Result<(u8, Vec<u8>), AllocError> {
     let mut answer = Vec::new(alloc);
-    let status = run(rt, alloc, Command::CheckAllowed, &mut reader, &mut answer);
+    let status = run(rt, alloc, &mut reader, &mut answer);
     if answer.ends_with(b"fault,0,OutOfMemory,,,,,\n") {
         return Err(AllocError);
     }
@@ -148,10 +163,10 @@ fn answers_at_any_pace(rt: HostRuntime) -> Result<(), Fail> {
     let alloc = rt.alloc();
     let over = text_over_capacity(alloc)?;
     for width in [1, 2, 7, 8192] {
-        let (status, answer) = answer_of(&rt, alloc, reader_of(TEXT, width, 0))?;
+        let (status, answer) = told_of(&rt, alloc, reader_of(TEXT, width, 0))?;
         assert_eq!(rt; answer.as_slice(), ANSWER);
         assert_eq!(rt; status, 0);
-        let (status, answer) = answer_of(&rt, alloc, reader_of(over.as_slice(), width, 0))?;
+        let (status, answer) = told_of(&rt, alloc, reader_of(over.as_slice(), width, 0))?;
         assert_eq!(rt;
             answer.as_slice(),
             b"broken,OverCapacity,S1,,,,,\n".as_slice()
@@ -166,7 +181,7 @@ fn answers_at_any_pace(rt: HostRuntime) -> Result<(), Fail> {
 fn a_read_of_any_number_fails(rt: HostRuntime) -> Result<(), Fail> {
     let reads = TEXT.len() + 1;
     for failing in 1..reads + 2 {
-        let (status, answer) = answer_of(&rt, rt.alloc(), reader_of(TEXT, 1, failing))?;
+        let (status, answer) = told_of(&rt, rt.alloc(), reader_of(TEXT, 1, failing))?;
         if failing <= reads {
             assert_eq!(rt; answer.as_slice(), NO_READ);
             assert_eq!(rt; status, 2);
@@ -186,13 +201,7 @@ fn a_write_of_any_number_fails(rt: HostRuntime) -> Result<(), Fail> {
         for failing in 0..writes + 2 {
             let mut reader = TEXT;
             let mut writer = writer_of(rt.alloc(), 1, failing, takes_none)?;
-            let status = run(
-                &rt,
-                rt.alloc(),
-                Command::CheckAllowed,
-                &mut reader,
-                &mut writer,
-            );
+            let status = run(&rt, rt.alloc(), &mut reader, &mut writer);
             if 0 < failing && failing <= writes {
                 assert_eq!(rt; status, 2);
                 assert_eq!(rt; writer.got.as_slice(), &ANSWER[..failing - 1]);
@@ -213,13 +222,7 @@ fn the_write_of_any_row_fails(rt: HostRuntime) -> Result<(), Fail> {
         for failing in 1..7 {
             let mut reader = TEXT;
             let mut writer = writer_of(rt.alloc(), 8192, failing, takes_none)?;
-            let status = run(
-                &rt,
-                rt.alloc(),
-                Command::CheckAllowed,
-                &mut reader,
-                &mut writer,
-            );
+            let status = run(&rt, rt.alloc(), &mut reader, &mut writer);
             assert!(rt; ANSWER.starts_with(writer.got.as_slice()));
             if failing <= 5 {
                 assert_eq!(rt; status, 2);
@@ -253,7 +256,7 @@ fn whole_rows(cut: usize) -> Option<usize> {
 #[test]
 fn a_text_cut_after_any_byte(rt: HostRuntime) -> Result<(), Fail> {
     for cut in 0..TEXT.len() + 1 {
-        let (status, answer) = answer_of(&rt, rt.alloc(), reader_of(&TEXT[..cut], 8192, 0))?;
+        let (status, answer) = told_of(&rt, rt.alloc(), reader_of(&TEXT[..cut], 8192, 0))?;
         let (wanted, text) = match whole_rows(cut) {
             Some(8) => (0, ANSWER),
             Some(4) => (0, ANSWER_TO_NO_LINES),

@@ -1,55 +1,81 @@
-//! What is told of the faults of a text.
+//! What is told of the faults of a text, and of gas days without a calendar.
 
-use crate::general::{meaning_of_fault, meaning_of_whole};
 use crate::order::{told_of_limit, told_of_missing, told_of_order};
-use crate::printed::Printed;
+use crate::records::{Records, first_day, record_at};
 use crate::refusal::told_of_refusal;
-use crate::text::{Spot, Text};
+use crate::shown::Shown;
+use crate::text::{Source, Spot};
 use crate::written::{told_of_count, told_of_field, told_of_kind};
+use gd_replies::Reply;
+use gd_system::BuildFault;
+use gd_text_part::{Cause, TextFault};
 use std::alloc::AllocError;
 
-/// What is told of a fault that blames no row.
-fn told_of_whole(text: Text, name: &str) -> Result<Option<String>, AllocError> {
-    match meaning_of_whole(name) {
-        Some(meaning) => Ok(Some(String::from_str(text.alloc, meaning)?)),
-        None => Ok(None),
+/// What is told of the fault of a row.
+fn told_at(spot: Spot, cause: Cause) -> Result<String, AllocError> {
+    match cause {
+        Cause::FieldCount => told_of_count(spot),
+        Cause::UnknownKind => told_of_kind(spot),
+        Cause::Order => told_of_order(spot),
+        Cause::BadField(k) => told_of_field(spot, k),
+        Cause::Missing => told_of_missing(spot, true),
+        Cause::Build(BuildFault::NoSegment) => told_of_missing(spot, false),
+        Cause::Limit => told_of_limit(spot),
+        Cause::Build(_)
+        | Cause::Contract(_)
+        | Cause::Capacity(_)
+        | Cause::Line(_)
+        | Cause::UnknownElement
+        | Cause::Duplicate => told_of_refusal(spot, cause),
     }
 }
 
-/// What is told of a fault by its name alone.
-fn told_by_name(spot: Spot, name: &str) -> Result<Option<String>, AllocError> {
-    let alloc = spot.text.alloc;
-    let Some(meaning) = meaning_of_fault(name) else {
-        return Ok(None);
+/// What is told of the fault of the row with this number.
+fn told_of_row(source: Source<'_>, number: u64, cause: Cause) -> Result<String, AllocError> {
+    let record = record_at(source.alloc, source.bytes, number)?;
+    let spot = Spot {
+        source,
+        number,
+        record: &record,
+        place: source.line(record.line()),
     };
-    let place = spot.place()?;
-    Ok(Some(format!(in alloc; "{place}: {meaning}")?))
-}
-
-/// What is told of a fault by what the text has at its row, where that is found.
-fn told_by_row(spot: Spot, name: &str, field: u64) -> Result<Option<String>, AllocError> {
-    match name {
-        "FieldCount" => told_of_count(spot),
-        "UnknownKind" => told_of_kind(spot),
-        "BadField" => told_of_field(spot, field as usize),
-        "Order" => told_of_order(spot),
-        "Missing" => told_of_missing(spot, true),
-        "NoSegment" => told_of_missing(spot, false),
-        "Limit" => told_of_limit(spot),
-        _ => told_of_refusal(spot, name),
-    }
+    let told = told_at(spot, cause);
+    drop(record);
+    told
 }
 
 /// What is told of the fault of a text.
-pub(crate) fn told_of_fault(text: Text, printed: Printed) -> Result<Option<String>, AllocError> {
-    let number = printed.number(2);
-    let name = printed.field(3);
-    if number == 0 {
-        return told_of_whole(text, name);
+pub(crate) fn told_of_fault(source: Source<'_>, fault: TextFault) -> Result<String, AllocError> {
+    let words = match fault {
+        TextFault::Row { row, cause } => return told_of_row(source, row, cause),
+        TextFault::ReadFailed => "the text could not be read to its end",
+        TextFault::TooLong => {
+            "the text is too long: at most 268435456 bytes, 1100000 rows and 4194304 reads are taken"
+        }
+        TextFault::OutOfMemory => "memory ran out; behind the rows so far nothing is told",
+    };
+    String::from_str(source.alloc, words)
+}
+
+/// Why the gas day of this row has no calendar: its date, or its zone.
+fn told_of_day(source: Source, day: &Records<'_>, reply: &Reply) -> Result<String, AllocError> {
+    let place = source.line(day.line());
+    if matches!(reply, Reply::OutOfRange) {
+        let date = Shown(day.field(2));
+        return format!(in source.alloc;
+            "{place}: the date is {date}; gas days are those from 2016-04-02 to 2099-12-31"
+        );
     }
-    let spot = Spot { text, number };
-    match told_by_row(spot, name, printed.number(4))? {
-        Some(told) => Ok(Some(told)),
-        None => told_by_name(spot, name),
-    }
+    let zone = Shown(day.field(3));
+    format!(in source.alloc;
+        "{place}: the zone {zone} gives the gas day no calendar; a POSIX rule is wanted, as CST6 or \"CST6CDT,M3.2.0,M11.1.0\", whose clock shows each time of the gas day's cycles once"
+    )
+}
+
+/// Why a gas day has no calendar.
+pub(crate) fn told_of_no_calendar(source: Source, reply: &Reply) -> Result<String, AllocError> {
+    let day = first_day(source.alloc, source.bytes)?;
+    let told = told_of_day(source, &day, reply);
+    drop(day);
+    told
 }

@@ -4,26 +4,17 @@
 //! and what stands there. Nothing rests on a message: no contract speaks of its words.
 #![tactic(auto)]
 
-mod answered;
-mod before;
 mod broken;
-mod contract;
-mod cut;
 mod ends;
 mod fault;
 mod field;
-mod general;
 mod kind;
 mod message;
 mod names;
 mod near;
 mod order;
-mod part;
-mod path;
-mod printed;
-mod record;
+mod records;
 mod refusal;
-mod refused;
 mod shown;
 mod text;
 mod written;

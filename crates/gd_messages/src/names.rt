@@ -6,8 +6,9 @@ use gd_units::{Kind, Name};
 use std::alloc::{AllocError, Global};
 
 /// What a name has to be that of.
-#[derive(Clone, Copy)]
+#[derive(Clone, Copy, PartialEq, Eq)]
 pub(crate) enum Sought {
+    Place,
     /// A segment, point or pool.
     Element,
     /// A point or pool.
@@ -20,15 +21,16 @@ impl Sought {
     /// Whether the name of this part is one.
     pub(crate) fn takes(self, part: &PipelineRow) -> bool {
         match part {
-            PipelineRow::Segment { .. } => matches!(self, Sought::Element),
-            PipelineRow::Point { .. } => !matches!(self, Sought::Pool),
-            PipelineRow::Pool { .. } => !matches!(self, Sought::Point),
+            PipelineRow::Segment { .. } => self == Sought::Element,
+            PipelineRow::Point { .. } => !matches!(self, Sought::Place | Sought::Pool),
+            PipelineRow::Pool { .. } => !matches!(self, Sought::Place | Sought::Point),
         }
     }
 
     /// What is sought, in words.
     pub(crate) fn words(self) -> &'static str {
         match self {
+            Sought::Place => "place",
             Sought::Element => "segment, point or pool",
             Sought::End => "point or pool",
             Sought::Point => "point",
@@ -62,45 +64,16 @@ pub(crate) fn part_name(part: &PipelineRow) -> &Name {
     }
 }
 
-/// The place at which a point or pool hangs.
-pub(crate) fn place_of_end(part: &PipelineRow) -> Option<Name> {
-    match part {
-        PipelineRow::Segment { .. } => None,
-        PipelineRow::Point { place, .. } => Some(*place),
-        PipelineRow::Pool { place, .. } => Some(*place),
-    }
-}
-
-/// The first part of this name, and the number of its row among these, from 0.
-pub(crate) fn part_named(rows: &[Row], name: Name) -> Option<(usize, PipelineRow)> {
-    for (at, row) in rows.iter().enumerate() {
+/// The first part of this name.
+pub(crate) fn part_named(rows: &[Row], name: Name) -> Option<PipelineRow> {
+    for row in rows {
         if let Row::Pipeline(part) = row
             && *part_name(part) == name
         {
-            return Some((at, *part));
+            return Some(*part);
         }
     }
     None
-}
-
-/// The part that may have been meant by a name that none of those sought has.
-pub(crate) fn near_part<'r>(
-    alloc: Global,
-    rows: &'r [Row],
-    name: &Name,
-    sought: Sought,
-) -> Result<Option<&'r str>, AllocError> {
-    let mut nearest = Nearest::to(name.as_str());
-    let mut meant = None;
-    for row in rows {
-        if let Row::Pipeline(part) = row
-            && sought.takes(part)
-            && nearest.is_nearer(alloc, part_name(part).as_str())?
-        {
-            meant = Some(part_name(part).as_str());
-        }
-    }
-    Ok(meant)
 }
 
 /// Whether a segment of these rows begins or ends at a place.
@@ -111,21 +84,33 @@ pub(crate) fn has_place(rows: &[Row], place: Name) -> bool {
     })
 }
 
-/// The place that may have been meant by a name that no place has.
-pub(crate) fn near_place<'r>(
+/// The names that a row gives to what is sought: those of a segment's places, or a part's own.
+fn names_of(row: &Row, sought: Sought) -> (Option<&Name>, Option<&Name>) {
+    match row {
+        Row::Pipeline(PipelineRow::Segment { from, to, .. }) if sought == Sought::Place => {
+            (Some(from), Some(to))
+        }
+        Row::Pipeline(part) if sought.takes(part) => (Some(part_name(part)), None),
+        _ => (None, None),
+    }
+}
+
+/// The name that may have been meant by one that nothing of what is sought has.
+pub(crate) fn near_name<'r>(
     alloc: Global,
     rows: &'r [Row],
     name: &Name,
+    sought: Sought,
 ) -> Result<Option<&'r str>, AllocError> {
     let mut nearest = Nearest::to(name.as_str());
     let mut meant = None;
     for row in rows {
-        if let Row::Pipeline(PipelineRow::Segment { from, to, .. }) = row {
-            if nearest.is_nearer(alloc, from.as_str())? {
-                meant = Some(from.as_str());
-            }
-            if nearest.is_nearer(alloc, to.as_str())? {
-                meant = Some(to.as_str());
+        let (first, second) = names_of(row, sought);
+        for name in [first, second] {
+            if let Some(name) = name
+                && nearest.is_nearer(alloc, name.as_str())?
+            {
+                meant = Some(name.as_str());
             }
         }
     }
@@ -144,5 +129,24 @@ pub(crate) fn block_start(form: Option<Form>, rows: &[Row]) -> usize {
     match last {
         Some(last) => last.saturating_add(1),
         None => 0,
+    }
+}
+
+/// Whether two rows give the same name, or a quantity or price of the same thing.
+pub(crate) fn are_twins(row: &Row, other: &Row) -> bool {
+    match (row, other) {
+        (Row::Pipeline(part), Row::Pipeline(other)) => part_name(part) == part_name(other),
+        (Row::Contract(contract), Row::Contract(other)) => contract.name == other.name,
+        (Row::Carry { key, .. }, Row::Carry { key: other, .. }) => key == other,
+        (Row::Day { book, .. }, Row::Day { book: other, .. }) => book == other,
+        (
+            Row::Price { element, class, .. },
+            Row::Price {
+                element: other,
+                class: at,
+                ..
+            },
+        ) => element == other && class == at,
+        _ => false,
     }
 }

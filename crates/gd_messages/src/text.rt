@@ -1,6 +1,6 @@
-//! The text that a printed row speaks of, and a row of it.
+//! The text that a row of an answer speaks of, and a row of it.
 
-use crate::record::{Records, line_ends, record_at};
+use crate::records::{Records, line_ends, record_at};
 use crate::shown::Place;
 use gd_text_part::{Form, Row, TextFault, rows_in};
 use std::alloc::{AllocError, Global};
@@ -12,35 +12,29 @@ pub struct Part<'t> {
     pub begin: usize,
 }
 
-/// What was read.
+/// What was read, and where messages about it are made.
 #[derive(Clone, Copy)]
 pub struct Source<'t> {
+    pub alloc: Global,
     /// By which form it was read; `None` where the command reads no text.
     pub form: Option<Form>,
-    /// The bytes, none where they aren't at hand.
+    /// The bytes, none where they could not be read.
     pub bytes: &'t [u8],
     /// The files that make it up, in order, each with a line end behind it; none where it came from standard input.
     pub parts: &'t [Part<'t>],
 }
 
-/// A text as it was read. It is empty where it isn't at hand.
+/// A row of a text by its number from 1, its record, and where it stands. It may be past the last, and has no fields then.
 #[derive(Clone, Copy)]
-pub(crate) struct Text<'t> {
-    pub(crate) alloc: Global,
-    pub(crate) form: Option<Form>,
-    pub(crate) bytes: &'t [u8],
-    pub(crate) parts: &'t [Part<'t>],
-}
-
-/// A row of a text, by its number from 1. It may be past the last.
-#[derive(Clone, Copy)]
-pub(crate) struct Spot<'t> {
-    pub(crate) text: Text<'t>,
+pub(crate) struct Spot<'r, 't> {
+    pub(crate) source: Source<'t>,
     pub(crate) number: u64,
+    pub(crate) record: &'r Records<'t>,
+    pub(crate) place: Place<'t>,
 }
 
-impl<'t> Text<'t> {
-    /// The rows, or none where the text is faulty or not at hand. The only error is want of memory.
+impl<'t> Source<'t> {
+    /// The rows, or none where the text is faulty. The only error is want of memory.
     pub(crate) fn rows(&self) -> Result<Vec<Row>, AllocError> {
         let Some(form) = self.form else {
             return Ok(Vec::new(self.alloc));
@@ -66,25 +60,9 @@ impl<'t> Text<'t> {
 
     /// Where the row with this number stands.
     pub(crate) fn place(&self, number: u64) -> Result<Place<'t>, AllocError> {
-        match record_at(self.alloc, self.bytes, number)? {
-            Some(record) => {
-                let place = self.line(record.line());
-                drop(record);
-                Ok(place)
-            }
-            None => Ok(Place::Row(number)),
-        }
-    }
-}
-
-impl<'t> Spot<'t> {
-    /// Where the row stands.
-    pub(crate) fn place(&self) -> Result<Place<'t>, AllocError> {
-        self.text.place(self.number)
-    }
-
-    /// The record of the row, taken last.
-    pub(crate) fn record(&self) -> Result<Option<Records<'t>>, AllocError> {
-        record_at(self.text.alloc, self.text.bytes, self.number)
+        let record = record_at(self.alloc, self.bytes, number)?;
+        let place = self.line(record.line());
+        drop(record);
+        Ok(place)
     }
 }

@@ -1,4 +1,4 @@
-use Rattle.std.proofs.Common.{◌≡◌, ◌<◌, ◌∙◌, true, false, max, List, length, rules, sym, subst, arith}
+use Rattle.std.proofs.Common.{◌≡◌, ◌<◌, ◌∙◌, true, false, max, length, rules, sym, subst, arith}
 use Rattle.gasday_archive.specs.Keeping.{IsKnownIn, IsThere, answer_status, is_last}
 use Rattle.gasday_archive.proofs.Keeping.{one_more, ended, all_done, known_then, stay_trans}
 use Rattle.gasday_archive.proofs.keeps.keep_all.Goals as goal

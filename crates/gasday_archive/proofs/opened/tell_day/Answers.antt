@@ -1,15 +1,29 @@
-use Rattle.std.proofs.Common.{List, ℕ, subst}
-use Rattle.gasday_archive.specs.Runs.{OrNoMemory, Tells, TellsBytes}
-use Rattle.gasday_archive.proofs.Telling.{read_refused, read_so}
+use Rattle.std.proofs.Common.{List, None, Result, inl, sym, subst}
+use Rattle.std.proofs.lemmas.Result.{IfOk-weaker}
+use Rattle.std.specs.Global.{Vec}
+use Rattle.gd_day.specs.Opening.{opened_of}
+use Rattle.gd_text_part.specs.declared.fault.RowFault.{RowFault}
+use Rattle.gd_text_part.specs.declared.row.Row.{Row}
+use Rattle.gasday_archive.specs.Runs.{TellsBytes, TellsDay, TellsRows}
+use Rattle.gasday_archive.proofs.Telling.{bytes_refused, told_so, unopened}
 use Rattle.gasday_archive.proofs.opened.tell_day.Goals as goal
 
 pub returns-in-Ok : goal.returns-in-Ok
 returns-in-Ok g c =
     let gives = g.O.Opener.opens c.args.opener in
-    read_so g.S.Store gives (g.R.Read.remaining c.args.reader.now) c.in-Ok.text.items c.tell_bytes.result.archive c.tell_bytes.result.answer c.in-Ok.ensures.bytes
-    (subst (λ (all : List ℕ). Tells (OrNoMemory (TellsBytes g.S.Store gives all) c.tell_bytes.result.archive) c.tell_bytes.result.answer) c.as_slice.ensures.value c.tell_bytes.ensures)
+    let rows : List Row = c.as_slice.result.now in
+    told_so (TellsDay g.S.Store gives rows (opened_of rows)) (TellsBytes g.S.Store gives c.args.text.now) c.tell_rows.result.archive c.tell_rows.result.answer
+    (λ a t. inl (
+      c.in-Ok.ensures.0,
+      subst (λ (r : Result (List Row) RowFault). TellsRows g.S.Store gives r c.tell_rows.result.archive a) (sym c.in-Ok.ensures.1)
+          (subst (λ (all : List Row). TellsDay g.S.Store gives all (opened_of all) c.tell_rows.result.archive a) c.as_slice.ensures.value t),
+    ))
+    c.tell_rows.ensures
 
 pub returns-in-Err : goal.returns-in-Err
 returns-in-Err g c =
-    read_refused g.S.Store (g.O.Opener.opens c.args.opener) (g.R.Read.remaining c.args.reader.now) c.in-Err.fault c.unopened.result.archive c.of_fault.result c.unopened.result.answer
-    c.in-Err.ensures.fault c.unopened.ensures.archive c.unopened.ensures.answer c.of_fault.ensures
+    let gives = g.O.Opener.opens c.args.opener in
+    unopened (TellsBytes g.S.Store gives c.args.text.now) c.unopened.result.archive c.of_fault.result c.unopened.result.answer c.unopened.ensures.archive c.unopened.ensures.answer
+    (IfOk-weaker c.of_fault.result _ _
+    (λ a t. subst (TellsBytes g.S.Store gives c.args.text.now None) (sym t.1) (bytes_refused g.S.Store gives (λ (v : Vec Row). v.items) c.args.text.now c.in-Err.fault c.in-Err.ensures t.0))
+    c.of_fault.ensures)

@@ -1,4 +1,4 @@
-use Rattle.std.proofs.Common.{◌≡◌, Result, Some, IfOk, refl, sym, subst}
+use Rattle.std.proofs.Common.{◌≡◌, Some, IfOk, refl, sym, subst}
 use Rattle.gasday_part.specs.AnswerSeen.{answer_seen}
 use Rattle.gasday_archive.specs.Archives.{migrated, no_store}
 use Rattle.gasday_archive.specs.Runs.{TellsMigration, TellsOf}

@@ -1,9 +1,8 @@
-use Rattle.std.proofs.Common.{◌≡◌, ◌⊎◌, None, Result, Err, inl, inr, refl, sym, subst}
+use Rattle.std.proofs.Common.{None, Result, inl, inr, refl, sym, subst}
 use Rattle.std.proofs.lemmas.Result.{IfOk-weaker}
 use Rattle.gd_day.specs.Opening.{Opened, opened_of}
 use Rattle.gd_text_part.specs.declared.fault.TextFault.{TextFault}
 use Rattle.gasday_part.specs.AnswerSeen.{answer_seen}
-use Rattle.gasday_part.specs.Answers.{fault_answer}
 use Rattle.gasday_archive.specs.Runs.{TellsDate, TellsDay}
 use Rattle.gasday_archive.proofs.Telling.{told_so, unopened}
 use Rattle.gasday_archive.proofs.opened.tell_rows.Goals as goal

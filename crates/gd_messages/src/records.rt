@@ -14,7 +14,6 @@ pub(crate) struct Records<'t> {
     /// The text behind its byte order mark.
     text: &'t [u8],
     current: ByteRecord,
-    number: u64,
     /// Where the reader stood before the record that was taken last.
     before: u64,
 }
@@ -59,7 +58,6 @@ impl<'t> Records<'t> {
             reader,
             text,
             current: ByteRecord::new(alloc),
-            number: 0,
             before: 0,
         }
     }
@@ -71,13 +69,7 @@ impl<'t> Records<'t> {
             .reader
             .read_byte_record(&mut self.current)
             .map_err(no_memory)?;
-        self.number = self.number.saturating_add(1);
         Ok(found)
-    }
-
-    /// Which record was taken last, counted from 1.
-    pub(crate) fn number(&self) -> u64 {
-        self.number
     }
 
     /// How many fields it has.
@@ -102,32 +94,41 @@ impl<'t> Records<'t> {
     }
 }
 
-/// Takes records up to the one with this number, or finds that there are fewer.
-fn find(records: &mut Records<'_>, number: u64) -> Result<bool, AllocError> {
-    for _ in 0..number.min(MAX_ROWS) {
-        if !records.advance()? {
-            return Ok(false);
-        }
-    }
-    Ok(true)
-}
-
-/// The records of a text up to the one with this number, which was taken last; `None` where there are fewer.
+/// The records of a text up to the one with this number, which was taken last; where there are fewer, none is left.
 pub(crate) fn record_at(
     alloc: Global,
     text: &[u8],
     number: u64,
-) -> Result<Option<Records<'_>>, AllocError> {
+) -> Result<Records<'_>, AllocError> {
     let mut records = Records::of(alloc, text);
-    match find(&mut records, number) {
-        Ok(true) => Ok(Some(records)),
-        Ok(false) => {
-            drop(records);
-            Ok(None)
-        }
-        Err(fault) => {
-            drop(records);
-            Err(fault)
+    for _ in 0..number.min(MAX_ROWS) {
+        match records.advance() {
+            Ok(true) => {}
+            Ok(false) => break,
+            Err(fault) => {
+                drop(records);
+                return Err(fault);
+            }
         }
     }
+    Ok(records)
+}
+
+/// The records of a text up to its first `day` row, which was taken last; where there is none, none is left.
+pub(crate) fn first_day(alloc: Global, text: &[u8]) -> Result<Records<'_>, AllocError> {
+    let mut records = Records::of(alloc, text);
+    for _ in 0..MAX_ROWS {
+        match records.advance() {
+            Ok(true) => {}
+            Ok(false) => break,
+            Err(fault) => {
+                drop(records);
+                return Err(fault);
+            }
+        }
+        if records.field(1) == b"day".as_slice() {
+            break;
+        }
+    }
+    Ok(records)
 }
