@@ -15,7 +15,8 @@ use Rattle.gd_cost.specs.Parts.{class_words}
 use Rattle.gd_cost.specs.declared.lex.Lex.{Lex}
 use Rattle.gd_cost.specs.declared.pair.Pair.{Pair}
 use Rattle.gd_certificate.specs.InForce.{ExplainsTariff}
-use Rattle.gd_certificate.specs.Cutting.{Members, IsShaped, Cuts, ExplainsCut, side_of}
+use Rattle.gd_certificate.specs.Cutting.{Members, side_of}
+use Rattle.gd_certificate.specs.Explained.{IsShaped, Cuts, ExplainsCut}
 use Rattle.gd_certificate.specs.declared.CertFault.{CertFault}
 use Rattle.gd_certificate.specs.declared.cut.CutFault.{CutFault}
 use Rattle.gd_question.specs.Posing.{Posed}

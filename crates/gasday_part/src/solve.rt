@@ -5,7 +5,7 @@ ghost use Rattle.gd_rules.specs.Schedule.{IsAllowed};
 ghost use Rattle.gd_rules.specs.Spread.{IsBest};
 ghost use Rattle.gd_rules.specs.Tariff.{IsPricedByTariff};
 ghost use Rattle.gd_cost.specs.Parts.{class_words};
-ghost use Rattle.gd_certificate.specs.Cutting.{IsShaped, Cuts};
+ghost use Rattle.gd_certificate.specs.Explained.{IsShaped, Cuts};
 ghost use Rattle.gd_text.specs.Values.{question_of as question_by};
 ghost use Rattle.gasday_part.specs.Answers as spec;
 ghost use Rattle.gasday_part.specs.AnswerSeen.{answer_seen};

@@ -8,7 +8,8 @@ use Rattle.sqlite.specs.declared.types.Value.TheVariants.{Int, Text, Blob}
 use Rattle.gd_rules.specs.Schedule.{IsAllowed, HasBetterTotals}
 use Rattle.gd_rules.specs.Spread.{IsBest}
 use Rattle.gd_rules.specs.Tariff.{IsPricedByTariff, IsPricedByClasses}
-use Rattle.gd_cost.specs.Parts.{class_words, first_of, words_of}
+use Rattle.gd_cost.specs.Parts.{class_words, words_of}
+use Rattle.gd_cost.specs.Made.{first_of}
 use Rattle.gd_certificate.specs.InForce.{ExplainsTariff, ExplainsClasses}
 use Rattle.gd_certificate.specs.declared.CertFault.{CertFault}
 use Rattle.gd_certificate.specs.declared.CertFault.TheVariants.{OutOfMemory as NoMemory}

@@ -3,7 +3,7 @@
 ghost use Rattle.std.specs.Prelude.{◌≡◌, ◌≢◌, Some, None, Err, IfOk, IfErr, OnOk, map};
 ghost use Rattle.sqlite.specs.declared.types.Value.TheVariants.{Int};
 ghost use Rattle.sqlite_value.specs.Value.{owned};
-ghost use Rattle.gd_cost.specs.Parts.{first_of};
+ghost use Rattle.gd_cost.specs.Made.{first_of};
 ghost use Rattle.gd_archive.specs.Soundness as spec;
 
 use crate::fault::{AuditFault, NO_MEMORY, Rule, Unsound};

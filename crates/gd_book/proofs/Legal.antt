@@ -12,7 +12,8 @@ use Rattle.gd_machine.specs.Known.{IsSound}
 use Rattle.std.specs.Result.{IsErr, IsErrAnd}
 use Rattle.std.specs.Prelude.{Result, Ok, Err}
 use Rattle.gd_machine.specs.declared.refusal.Refusal.{Refusal}
-use Rattle.gd_machine.specs.Machine.{IsLegal, Passes, AllPass, IsAccepted, MayRefuse, Step}
+use Rattle.gd_machine.specs.Machine.{IsLegal, Passes, AllPass, IsAccepted}
+use Rattle.gd_machine.specs.Steps.{MayRefuse, Step}
 use Rattle.gd_machine.proofs.Sound.{sound}
 use Rattle.gd_book_part.specs.declared.tables.Tables.{Tables}
 use Rattle.gd_book_part.specs.Kept.{AreTablesOf}

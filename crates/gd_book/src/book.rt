@@ -3,10 +3,12 @@
 ghost use Rattle.std.specs.Prelude.{◌≡◌, ℕ, [], ◌≤◌, None, true, false, length as len_of, take, IfOk, IfErr, OnOk};
 ghost use Rattle.std.specs.Option.{MatchOption};
 ghost use Rattle.gd_board.specs.Known.{StaysKnown, known_of};
-ghost use Rattle.gd_machine.specs.History.{cycle_of, is_frozen, session_calls};
+ghost use Rattle.gd_machine.specs.History.{cycle_of, is_frozen};
+ghost use Rattle.gd_machine.specs.Sessions.{session_calls};
 ghost use Rattle.gd_machine.specs.Asking.{accepted, question};
 ghost use Rattle.gd_machine.specs.Headline.{Holds};
-ghost use Rattle.gd_machine.specs.Machine.{Step, IsLegal, AllPass, refusal_of, reply_of, Passes};
+ghost use Rattle.gd_machine.specs.Machine.{IsLegal, AllPass, refusal_of, reply_of, Passes};
+ghost use Rattle.gd_machine.specs.Steps.{Step};
 ghost use Rattle.gd_machine.specs.declared.event.Event.TheVariants as event;
 ghost use Rattle.gd_book_part.specs.Names.{ExplainsOpen};
 ghost use Rattle.gd_book.specs.Postings.{AllPosted, IsPosted};

@@ -4,7 +4,8 @@ ghost use Rattle.std.specs.Prelude.{◌≡◌, ◌<◌, ◌++◌, ◌∷◌, [],
 ghost use Rattle.std.specs.Vec.{vec_len, vec_capacity};
 ghost use Rattle.gd_board.specs.Known.{StaysKnown, known_of};
 ghost use Rattle.gd_machine.specs.History.{cycle_of};
-ghost use Rattle.gd_machine.specs.Machine.{Step, MayRefuse, Passes, IsPublish, refusal_of, reply_of};
+ghost use Rattle.gd_machine.specs.Machine.{Passes, refusal_of, reply_of};
+ghost use Rattle.gd_machine.specs.Steps.{Step, MayRefuse, IsPublish};
 ghost use Rattle.gd_machine.specs.declared.event.Event.TheVariants as event;
 ghost use Rattle.gd_book.specs.Kept.{IsKept};
 ghost use Rattle.gd_book.specs.Postings.{AllPosted, Posts, Tells};

@@ -4,7 +4,8 @@ use Rattle.std.specs.Prelude.{nat_le, nat_lt, filter, ◌==◌, ◌||◌, if◌t
 use Rattle.std.proofs.lemmas.Bool.Decides.{nat_tests}
 use Rattle.std.proofs.lemmas.Bool.{lt-ltb}
 use Rattle.std.proofs.lemmas.List.{get_or-take, length-take}
-use Rattle.gd_rules.specs.Lines.{Key, Nomination, no_key, same_key, lines_of, line_key, of_line, until, last_quantity, nominated, lines_until}
+use Rattle.gd_rules.specs.Lines.{Key, Nomination, no_key, same_key, lines_of, line_key, of_line, until, last_quantity}
+use Rattle.gd_rules.specs.Lists.{nominated, lines_until}
 use Rattle.std.specs.List.{range_with_len}
 use Rattle.std.proofs.lemmas.List.FromFn.{map-range_with_len_more}
 use Rattle.gd_rules.specs.Question.{Element, Line}
@@ -12,13 +13,14 @@ use Rattle.gd_rules.specs.Question.Element.{Pool}
 use Rattle.gd_system.specs.Pipeline.{Pipeline, elements_of}
 use Rattle.gd_system.specs.Route.{element_at, ends_of}
 use Rattle.gd_system.specs.Known.{IsSystem}
-use Rattle.gd_question.specs.Posing.{Posed, with_limit, limit_fault, with_capacity, changed, after_capacity, line_within, lengthened, after_line}
-use Rattle.gd_question.specs.Posing as question
+use Rattle.gd_question.specs.Posing.{Posed}
+use Rattle.gd_question.specs.Filling.{with_capacity, changed, after_capacity, line_within, lengthened, after_line}
+use Rattle.gd_question.specs.InForce.{with_limit, limit_fault, in_force}
+use Rattle.gd_question.specs.Filling as filling
 use Rattle.gd_question.specs.declared.fault.LineFault.{LineFault}
 use Rattle.gd_question.specs.declared.fault.LineFault.TheVariants.{FloorAboveCeiling, BadClass, TooMany}
 use Rattle.gd_system.specs.declared.part.Ends.{Ends}
 use Rattle.gd_system.specs.declared.RouteFault.{RouteFault}
-use Rattle.gd_question.specs.InForce.{in_force}
 use Rattle.gd_question.specs.declared.fault.CapacityFault.TheVariants.{UnknownElement}
 use Rattle.gd_question.proofs.InForceLemmas.{length-in_force, in_force-past}
 use Rattle.gd_question.proofs.Limits.{length-elements, limits_first, fault_none}
@@ -105,8 +107,8 @@ pub line_taken : (q : Posed) (origin dest : List ℕ) (class floor ceiling : ℕ
     → after_line q origin dest class floor ceiling ≡ Err fault → ⊥
 line_taken q origin dest class floor ceiling fault routed bounds low high few = go (ends_of q.pipeline origin dest) routed
   where
-    go : (r : Result Ends RouteFault) → IsOk r → lengthened (λ ends. question.with_line q ends class floor ceiling) (line_within (length q.asked.lines) class floor ceiling r) ≡ Err fault → ⊥
+    go : (r : Result Ends RouteFault) → IsOk r → lengthened (λ ends. filling.with_line q ends class floor ceiling) (line_within (length q.asked.lines) class floor ceiling r) ≡ Err fault → ⊥
     go (Ok ends) ok e =
-        let taken = sym e ∙ ap (lengthened (λ ends. question.with_line q ends class floor ceiling)) (within_taken (length q.asked.lines) class floor ceiling ends bounds low high few) in
+        let taken = sym e ∙ ap (lengthened (λ ends. filling.with_line q ends class floor ceiling)) (within_taken (length q.asked.lines) class floor ceiling ends bounds low high few) in
         cc
     go (Err f) ok e = absurd (cc)

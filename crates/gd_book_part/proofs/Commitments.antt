@@ -1,9 +1,7 @@
 -- What a contract's lines are nominated with one nomination more: the line's former quantity gives way.
 use Rattle.std.proofs.Common.{◌≡◌, ℕ, ◌+◌, ◌-◌, ◌≤◌, Bool, true, false, cond, List, [], ◌∷◌, ◌++◌, length, All, nat_le, Some, None, ◌<◌, refl, sym, ap, ◌∙◌, arith}
-use Rattle.std.specs.Prelude.{◌||◌, fold}
-use Rattle.std.specs.Prelude.{is_some}
+use Rattle.std.specs.Prelude.{◌||◌, fold, is_some, not, nat_lt}
 use Rattle.std.specs.List.{list_any, IsDistinct, position_or_len}
-use Rattle.std.specs.Prelude.{not, nat_lt}
 use Rattle.std.proofs.lemmas.List.Sums.{prefix_len-le-length}
 use Rattle.std.proofs.lemmas.List.Quantifiers.{position-Some}
 use Rattle.gd_system.proofs.Positions.{is_some-position}
@@ -13,7 +11,8 @@ use Rattle.std.proofs.lemmas.Bool.{le-leb, ltb-false, false≢true}
 use Rattle.std.proofs.lemmas.Map.Keys.{IsDistinct-push}
 use Rattle.std.proofs.lemmas.List.Elements.{All-filter}
 use Rattle.std.proofs.lemmas.List.Folds.{list_any-append}
-use Rattle.gd_rules.specs.Lines.{Key, Nomination, same_key, same_name, entered, lines_of, of_line, last_quantity, nominated, committed, find, line_key, no_key}
+use Rattle.gd_rules.specs.Lines.{Key, Nomination, same_key, same_name, entered, lines_of, of_line, last_quantity, committed, find, line_key, no_key}
+use Rattle.gd_rules.specs.Lists.{nominated}
 use Rattle.gd_lines.proofs.Same.{key_is, key_self, key_other, name_self}
 use Rattle.gd_lines.proofs.NextNomination as pushed
 use Rattle.gd_lines.proofs.Sums.{total, part, total_changed, total_entered}

@@ -11,7 +11,8 @@ use Rattle.gd_machine.specs.declared.event.Event.{Event}
 use Rattle.gd_machine.specs.declared.event.Event.TheVariants.{Freeze}
 use Rattle.gd_machine.specs.declared.reply.Reply.{Reply}
 use Rattle.gd_machine.specs.Day.{Day}
-use Rattle.gd_machine.specs.History.{History, cycle_of, round_of, is_session_call, session_calls}
+use Rattle.gd_machine.specs.History.{History, cycle_of, round_of}
+use Rattle.gd_machine.specs.Sessions.{is_session_call, session_calls}
 use Rattle.gd_machine.specs.Asking.{nominations, counted, question}
 use Rattle.gd_machine.specs.Machine.{tests_of, refusal_of}
 use Rattle.gd_machine.proofs.Legal.{all_false}

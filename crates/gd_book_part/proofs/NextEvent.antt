@@ -14,7 +14,8 @@ use Rattle.gd_machine.specs.declared.event.Event.{Event}
 use Rattle.gd_machine.specs.declared.event.Event.TheVariants.{Publish, Declare}
 use Rattle.gd_machine.specs.declared.reply.Reply.{Reply}
 use Rattle.gd_machine.specs.Day.{Day}
-use Rattle.gd_machine.specs.History.{History, ends_cycle, is_freeze, is_session_call, session_calls, cycle_of, round_of, is_frozen, is_waived, response_of, schedules}
+use Rattle.gd_machine.specs.History.{History, ends_cycle, is_freeze, cycle_of, round_of, is_frozen, is_waived, response_of, schedules}
+use Rattle.gd_machine.specs.Sessions.{is_session_call, session_calls}
 use Rattle.gd_machine.specs.Asking.{nomination_of, nominations, accepted}
 use Rattle.gd_machine.specs.Machine.{tests_of, refusal_of, is_full}
 use Rattle.gd_machine.proofs.Legal.{all_false}

@@ -1,18 +1,18 @@
 -- Responses, waivers and capacities: events that end no cycle and bring no nomination.
 use Rattle.std.proofs.Common.{◌≡◌, ◌≢◌, ℕ, ◌+◌, ◌<◌, max, Bool, true, false, nat_lt, List, [], ◌∷◌, ◌++◌, length, get_or, set, Some, None, refl, sym, ap, subst, ◌∙◌, arith}
-use Rattle.std.specs.Prelude.{◌==◌, ◌&&◌, if◌then◌else◌}
+use Rattle.std.specs.Prelude.{◌==◌, ◌&&◌, if◌then◌else◌, is_some}
 use Rattle.std.specs.Global.{Vec}
-use Rattle.std.proofs.lemmas.Bool.{false≢true, ltb-false, leb-false, eqb-true, eqb-false, eq-eqb, ne_eqb}
+use Rattle.std.proofs.lemmas.Bool.{false≢true, ltb-false, leb-false, eqb-true, eqb-false, eq-eqb, ne_eqb, ltb-true}
 use Rattle.std.proofs.lemmas.List.{get_or-set_same, get_or-set_other, length-set}
 use Rattle.gd_rules.specs.Question.{Element}
 use Rattle.gd_units.specs.declared.service.End.{End}
 use Rattle.gd_units.specs.declared.service.End.TheVariants.{Origin, Dest}
 use Rattle.gd_system.specs.Pipeline.{elements_of}
-use Rattle.gd_question.specs.InForce.{in_force}
+use Rattle.gd_question.specs.InForce.{in_force, limit_fault}
 use Rattle.gd_machine.specs.declared.event.Event.{Event}
 use Rattle.gd_machine.specs.declared.event.Event.TheVariants.{Respond, PostCapacity, Waive}
 use Rattle.gd_machine.specs.declared.reply.Reply.{Reply}
-use Rattle.gd_machine.specs.Day.{Day}
+use Rattle.gd_machine.specs.Day.{Day, IsDay}
 use Rattle.gd_machine.specs.History.{History, ends_cycle, cycle_of, is_waived, response_of, elements_after, same_end}
 use Rattle.gd_machine.specs.Machine.{tests_of, refusal_of}
 use Rattle.gd_machine.proofs.Legal.{all_false}
@@ -23,12 +23,8 @@ use Rattle.gd_book_part.specs.Kept.{AreTablesOf}
 use Rattle.gd_book_part.specs.declared.tables.Tables.{Tables}
 use Rattle.gd_question.proofs.InForceLemmas.{in_force-set}
 use Rattle.gd_question.proofs.Limits.{pools_last}
-use Rattle.gd_question.specs.Posing.{limit_fault}
 use Rattle.gd_question.specs.Known.{limit_of}
 use Rattle.gd_rules.specs.Question.Element.{Segment, Receipt, Delivery, Pool}
-use Rattle.gd_machine.specs.Day.{IsDay}
-use Rattle.std.specs.Prelude.{is_some}
-use Rattle.std.proofs.lemmas.Bool.{ltb-true}
 use Rattle.gd_book_part.proofs.NextEvent.{few_on, cycle_on, round_on, settled_on, rounds_on, calls_on, calls_up, few_calls_on, effect_on, lines_on, sized_on, accepted_on, nominated_on, tells_on, not_full, none_kept_on}
 
 -- ---- one entry changes

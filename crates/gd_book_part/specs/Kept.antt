@@ -9,7 +9,8 @@ use Rattle.gd_certificate.specs.Checked.{Certificate}
 use Rattle.gd_machine.specs.declared.event.Event.TheVariants.{Publish}
 use Rattle.gd_machine.specs.declared.reply.Reply.{Reply}
 use Rattle.gd_machine.specs.Day.{Day}
-use Rattle.gd_machine.specs.History.{History, last_stamp, cycle_of, round_of, is_frozen, has_cut, schedules, elements_in_force, session_calls}
+use Rattle.gd_machine.specs.History.{History, last_stamp, cycle_of, round_of, is_frozen, has_cut, schedules, elements_in_force}
+use Rattle.gd_machine.specs.Sessions.{session_calls}
 use Rattle.gd_machine.specs.Asking.{nominations, accepted, question}
 use Rattle.gd_book_part.specs.LineConfirmations.{Tells, nothing}
 use Rattle.gd_book_part.specs.declared.tables.Tables.{Tables}

@@ -1,9 +1,10 @@
 //! The tables of a book.
 
 ghost use Rattle.std.specs.Prelude.{◌≡◌, [], IfOk};
-ghost use Rattle.gd_question.specs.Rows.{AreOwn};
+ghost use Rattle.gd_question.specs.Stored.{AreOwn};
 ghost use Rattle.std.specs.Option.{option_map};
-ghost use Rattle.gd_machine.specs.History.{History, cycle_of, round_of, is_frozen, session_calls};
+ghost use Rattle.gd_machine.specs.History.{History, cycle_of, round_of, is_frozen};
+ghost use Rattle.gd_machine.specs.Sessions.{session_calls};
 ghost use Rattle.gd_machine.specs.Asking.{question, accepted};
 ghost use Rattle.gd_book_part.specs.Kept.{AreTablesOf};
 

@@ -3,7 +3,7 @@ use Rattle.std.proofs.Common.{◌≡◌, ℕ, [], ◌∷◌, refl, true, false}
 use Rattle.std.specs.Prelude.{pos, negsuc}
 use Rattle.gd_rules.specs.Question.{Question}
 use Rattle.gd_rules.specs.Question.Element.{Segment, Receipt, Delivery, Pool}
-use Rattle.gd_scale.specs.Words.{whole}
+use Rattle.gd_scale.specs.Sizes.{whole}
 use Rattle.gd_rules.specs.Cut.{excess, has_end, has_place}
 use Rattle.gd_rules.specs.Priced.{crossed}
 use Rattle.gd_tree.specs.Levels.{RisesBy}
@@ -11,7 +11,8 @@ use Rattle.gd_system.specs.Pipeline.{Pipeline}
 use Rattle.gd_units.specs.declared.service.Kind.TheVariants as kind
 use Rattle.gd_certificate.specs.Payments.{origin_price}
 use Rattle.gd_certificate.specs.Levels.{level}
-use Rattle.gd_certificate.specs.Cutting.{Members, side_of, IsShaped}
+use Rattle.gd_certificate.specs.Cutting.{Members, side_of}
+use Rattle.gd_certificate.specs.Explained.{IsShaped}
 
 -- a segment from place 0 to place 1, a receipt point at 0, a delivery point and a pool at 1
 pipe : Pipeline

@@ -9,7 +9,8 @@ use Rattle.gd_rules.specs.Schedule.{IsAllowed, HasBetterTotals}
 use Rattle.gd_rules.specs.Spread.{IsBest}
 use Rattle.gd_rules.specs.Priced.{price}
 use Rattle.gd_rules.specs.Tariff.{IsPricedByTariff, IsPricedByClasses, tariff, tariff_unit, class_unit}
-use Rattle.gd_scale.specs.Words.{words, words_fit, both_fit}
+use Rattle.gd_scale.specs.Words.{words, words_fit}
+use Rattle.gd_scale.specs.Sizes.{both_fit}
 use Rattle.gd_rules.proofs.Better as Better
 use Rattle.gd_rules.proofs.Duality as Duality
 use Rattle.gd_scale.proofs.Words.{words_lawful}

@@ -2,11 +2,12 @@
 use Rattle.std.proofs.Common.{◌≡◌, ℕ, ◌^◌, List, refl, sym, ap, ◌∙◌, subst, arith, Bool, true}
 use Rattle.std.specs.Prelude.{ℤ, pos, ◌+ℤ◌}
 use Rattle.std.proofs.lemmas.Int.{ints}
-use Rattle.gd_scale.specs.Scale.{Scale, IsLawful, IsBounded}
-use Rattle.gd_rules.specs.Question.{Element, Question, element, line}
+use Rattle.gd_scale.specs.Scale.{Scale}
+use Rattle.gd_scale.specs.Laws.{IsLawful, IsBounded}
+use Rattle.gd_rules.specs.Question.{Element, Question, element, line, place_of}
 use Rattle.gd_rules.specs.Question.Element.{Segment, Receipt, Delivery, Pool}
 use Rattle.gd_rules.specs.Priced.{price, crossed}
-use Rattle.gd_rules.specs.Tree.{IsLine, place_of}
+use Rattle.gd_rules.specs.Tree.{IsLine}
 use Rattle.gd_rules.proofs.LinePayments as Crossed
 use Rattle.gd_tree.proofs.Levels.{crossed_by_levels}
 use Rattle.gd_certificate.specs.Payments.{origin_price}

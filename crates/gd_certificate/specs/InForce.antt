@@ -1,7 +1,8 @@
 -- The check at the two costs in use.
 use Rattle.std.specs.Prelude.{ℕ, ℤ, List}
 use Rattle.gd_rules.specs.Question.{Question}
-use Rattle.gd_scale.specs.Words.{words, words_fit, both_fit}
+use Rattle.gd_scale.specs.Words.{words, words_fit}
+use Rattle.gd_scale.specs.Sizes.{both_fit}
 use Rattle.gd_rules.specs.Tariff.{tariff, tariff_unit, class_unit}
 use Rattle.gd_rules.specs.Limits.{classes}
 use Rattle.gd_certificate.specs.Exact.{Explains}

@@ -4,6 +4,7 @@ pub mod Levels
 pub mod Loads
 pub mod Names
 pub mod Cutting
+pub mod Explained
 pub mod InForce
 pub mod Search
 pub mod Checked

@@ -4,7 +4,8 @@ ghost use Rattle.std.specs.Prelude.{◌≡◌, ◌↔◌, IsTrue, ℕ, pos, ◌<
 ghost use Rattle.gd_rules.specs.Question.{element as asked_element};
 ghost use Rattle.gd_rules.specs.Schedule.{IsAllowed};
 ghost use Rattle.gd_rules.specs.Cut.{has_place, has_end, way_out, must_leave, may_enter, can_leave, excess};
-ghost use Rattle.gd_certificate.specs.Cutting.{side_of, ExplainsCut, IsShaped, Cuts};
+ghost use Rattle.gd_certificate.specs.Cutting.{side_of};
+ghost use Rattle.gd_certificate.specs.Explained.{ExplainsCut, IsShaped, Cuts};
 
 use gd_question::{Element, Part, PlaceId, Question};
 use gd_units::Dth;

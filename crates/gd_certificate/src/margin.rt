@@ -2,11 +2,11 @@
 
 ghost use Rattle.std.specs.Prelude.{◌≡◌, ◌↔◌, pos, ◌<◌, ◌≤◌, ◌+◌, ◌^◌, length, map, IsTrue};
 ghost use Rattle.gd_scale.specs.Scale.{AtMost};
-ghost use Rattle.gd_rules.specs.Question.{line as asked_line, element as asked_element};
-ghost use Rattle.gd_rules.specs.Tree.{CanSend, place_of};
+ghost use Rattle.gd_rules.specs.Question.{line as asked_line, element as asked_element, place_of};
+ghost use Rattle.gd_rules.specs.Tree.{CanSend};
 ghost use Rattle.gd_rules.specs.Limits.{most_price_word};
 ghost use Rattle.gd_rules.specs.Priced.{price, crossed, margin as margin_of};
-ghost use Rattle.gd_system.specs.Pipeline.{element_of};
+ghost use Rattle.gd_system.specs.Parts.{element_of};
 ghost use Rattle.gd_certificate.specs.Payments.{ClearsLimit, origin_price};
 ghost use Rattle.gd_certificate.specs.Levels.{HasLevels, AreReady, level};
 

@@ -5,14 +5,16 @@ use Rattle.gd_rules.specs.Class.{lies_on}
 use Rattle.gd_rules.specs.Question.{Element}
 use Rattle.gd_tree.specs.Grown.{has_route}
 use Rattle.gd_system.specs.Pipeline.{Pipeline, elements_of}
-use Rattle.gd_system.specs.Route.{ends_of, AreEnds}
+use Rattle.gd_system.specs.Route.{ends_of}
+use Rattle.gd_system.specs.Ends.{AreEnds}
 use Rattle.gd_system.specs.Known.{IsSystem}
 use Rattle.gd_system.specs.declared.part.Ends.{Ends}
 use Rattle.gd_system.specs.declared.RouteFault.{RouteFault}
 use Rattle.gd_system.proofs.NamedEnds.{has_route-elements, told_route}
 use Rattle.gd_contracts.specs.Holdings.{Holdings, contract_named}
 use Rattle.gd_contracts.specs.Known.{AreHoldings}
-use Rattle.gd_contracts.specs.Classes.{route_between, firm_between, bought, class_between, class_under, class_answer, IsClass, HasClass}
+use Rattle.gd_contracts.specs.Classes.{route_between, firm_between, bought, class_between, class_under, class_answer}
+use Rattle.gd_contracts.specs.Classed.{IsClass, HasClass}
 use Rattle.gd_contracts.specs.declared.contract.Contract.{Contract}
 use Rattle.gd_contracts.specs.declared.contract.Service.{Service}
 use Rattle.gd_contracts.specs.declared.contract.Service.TheVariants.{Firm, Interruptible}

@@ -12,7 +12,8 @@ use Rattle.gd_system.specs.Pipeline.{Pipeline, same_name}
 use Rattle.gd_system.specs.Route.{ends_of}
 use Rattle.gd_system.specs.declared.part.Ends.{Ends}
 use Rattle.gd_system.specs.declared.RouteFault.{RouteFault}
-use Rattle.gd_contracts.specs.Holdings.{Holdings, contract_named, refusal, primary_refusal, routed_within, checked_contract, with_contract}
+use Rattle.gd_contracts.specs.Holdings.{Holdings, contract_named}
+use Rattle.gd_contracts.specs.Adding.{refusal, primary_refusal, routed_within, checked_contract, with_contract}
 use Rattle.gd_contracts.specs.Known.{IsServed, IsBanded, AreHoldings}
 use Rattle.gd_contracts.specs.Inside.{contract_of}
 use Rattle.gd_contracts.specs.declared.contract.Contract.{Contract}

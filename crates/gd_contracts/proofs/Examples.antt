@@ -8,7 +8,8 @@ use Rattle.gd_system.specs.declared.part.Point.{Point}
 use Rattle.gd_system.specs.declared.RouteFault.TheVariants.{UnknownEnd, WrongEnd, SameEnd, NoRoute}
 use Rattle.gd_units.specs.declared.service.Kind.{Kind}
 use Rattle.gd_units.specs.declared.service.Kind.TheVariants.{Receipt, Delivery}
-use Rattle.gd_contracts.specs.Holdings.{Holdings, none_on, routed_within, after_contract}
+use Rattle.gd_contracts.specs.Holdings.{Holdings}
+use Rattle.gd_contracts.specs.Adding.{none_on, routed_within, after_contract}
 use Rattle.gd_contracts.specs.Classes.{class_answer}
 use Rattle.gd_contracts.specs.declared.contract.Contract.{Contract}
 use Rattle.gd_contracts.specs.declared.contract.Service.{Service}

@@ -1,9 +1,9 @@
--- The class of a line under a contract.
-use Rattle.std.specs.Prelude.{◌≡◌, ℕ, List, length, Option, Some, None, Result, Ok, Err}
+-- The class of a line under a contract, or why it has none.
+use Rattle.std.specs.Prelude.{ℕ, List, length, Option, Some, None, Result, Ok, Err}
 use Rattle.gd_rules.specs.Class as rules
 use Rattle.gd_tree.specs.Grown.{route_of}
 use Rattle.gd_system.specs.Pipeline.{Pipeline, elements_of}
-use Rattle.gd_system.specs.Route.{ends_of, IsTheRoute}
+use Rattle.gd_system.specs.Route.{ends_of}
 use Rattle.gd_system.specs.declared.part.Ends.{Ends}
 use Rattle.gd_system.specs.declared.RouteFault.{RouteFault}
 use Rattle.gd_contracts.specs.Holdings.{Holdings, contract_named}
@@ -41,20 +41,3 @@ class_under p (Some contract) line = class_routed p contract.service line
 -- The class of a line between two names under the contract of a name, or the first refusal.
 abbrev pub class_answer : Holdings → List ℕ → List ℕ → List ℕ → Result ℕ ClassFault
 class_answer h contract origin dest = class_under h.pipeline (contract_named h.contracts contract) (ends_of h.pipeline origin dest)
-
--- The class of the tariff for a line between these ends over this route: for firm service by its primary ends and the one route between them.
-abbrev pub IsClass : Pipeline → Service → Ends → List ℕ → ℕ → Type 0
-IsClass p (Firm origin dest) line route class =
-    (primary : Ends) × (over : List ℕ) × (ends_of p origin dest ≡ Ok primary) × IsTheRoute p origin dest over
-    × (class ≡ rules.class_of (rules.Service.Firm primary.origin.0 primary.dest.0 over) line.origin.0 line.dest.0 route)
-IsClass p (Interruptible band) line route class = class ≡ rules.class_of (rules.Service.Interruptible band) line.origin.0 line.dest.0 route
-
--- There is such a contract, one route leads from the origin to the destination, and the line over it has this class.
-pub record HasClass (h : Holdings) (contract origin dest : List ℕ) (class : ℕ) : Type 0 where
-  pub agreed : Contract
-  pub line : Ends
-  pub route : List ℕ
-  pub found : contract_named h.contracts contract ≡ Some agreed
-  pub told : ends_of h.pipeline origin dest ≡ Ok line
-  pub leads : IsTheRoute h.pipeline origin dest route
-  pub is : IsClass h.pipeline agreed.service line route class

@@ -3,11 +3,13 @@
 ghost use Rattle.std.specs.Prelude.{◌≡◌, ℕ, ◌≤◌, ◌↔◌, List, None, IfOk, Ok, Err, IsSome};
 ghost use Rattle.gd_rules.specs.Class.{lies_on, class_of as class_by};
 ghost use Rattle.gd_rules.specs.Class.Service.{Firm as firm};
-ghost use Rattle.gd_system.specs.Route.{ends_of, AreEnds};
+ghost use Rattle.gd_system.specs.Route.{ends_of};
+ghost use Rattle.gd_system.specs.Ends.{AreEnds};
 ghost use Rattle.gd_system.specs.declared.RouteFault.{RouteFault};
 ghost use Rattle.gd_contracts.specs.Holdings.{Holdings, contract_named};
 ghost use Rattle.gd_contracts.specs.Known.{AreHoldings, IsServed};
-ghost use Rattle.gd_contracts.specs.Classes.{route_between, bought, class_between, class_answer, HasClass};
+ghost use Rattle.gd_contracts.specs.Classes.{route_between, bought, class_between, class_answer};
+ghost use Rattle.gd_contracts.specs.Classed.{HasClass};
 
 use crate::{ClassFault, Contracts, Service};
 use gd_system::{Ends, System};

@@ -1,8 +1,9 @@
 //! The contracts held on a pipeline: what is refused, and what can be read of them.
 
 ghost use Rattle.std.specs.Prelude.{◌≡◌, ◌<◌, ◌==◌, ◌++◌, ◌∷◌, [], length, None, Some, IfErr, OnOk, OnErr, Ok, Err, ◌⊎◌};
-ghost use Rattle.gd_contracts.specs.Holdings.{none_on, contract_named, checked_contract, after_contract};
-ghost use Rattle.gd_contracts.specs.Holdings as spec;
+ghost use Rattle.gd_contracts.specs.Holdings.{contract_named};
+ghost use Rattle.gd_contracts.specs.Adding.{none_on, checked_contract, after_contract};
+ghost use Rattle.gd_contracts.specs.Adding as adding;
 ghost use Rattle.gd_contracts.specs.Known.{AreHoldings, IsBanded};
 ghost use Rattle.gd_contracts.specs.Inside.{contract_of};
 ghost use Rattle.gd_system.specs.Pipeline.{same_name};
@@ -46,7 +47,7 @@ fn terms_of(contract: Contract) -> Terms
 
 /// Why no route leads between the primary ends of firm service, if none does.
 fn primary_refusal(system: &System, service: Service) -> Option<RouteFault>
-    ensures { result ≡ spec.primary_refusal system.now service }
+    ensures { result ≡ adding.primary_refusal system.now service }
 {
     match service {
         Service::Firm { origin, dest } => system.ends(origin, dest).err(),

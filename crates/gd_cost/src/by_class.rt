@@ -2,7 +2,7 @@
 
 ghost use Rattle.std.specs.Prelude.{◌≡◌, ℕ, pos, neg_ℤ, ◌≤◌, IsTrue};
 ghost use Rattle.gd_rules.specs.Units.{NeverRises};
-ghost use Rattle.gd_scale.specs.Words.{listed};
+ghost use Rattle.gd_scale.specs.Sizes.{listed};
 ghost use Rattle.gd_rules.specs.Tariff.{at_class};
 ghost use Rattle.gd_rules.proofs.ByClass.{lex_fits, lex_falls, pair_fits, pair_falls, one_pair_fits};
 

@@ -1,7 +1,8 @@
 //! Lists of numbers, of which the first that differs decides.
 
 ghost use Rattle.std.specs.Prelude.{◌≡◌, ℕ, ℤ, ◌<◌, slice_get};
-ghost use Rattle.gd_scale.specs.Words.{words, words_fit, words_size, words_rank};
+ghost use Rattle.gd_scale.specs.Words.{words, words_fit};
+ghost use Rattle.gd_scale.specs.Sizes.{words_size, words_rank};
 ghost use Rattle.gd_scale.proofs.Words.{words_lawful};
 ghost use Rattle.gd_scale.proofs.Bounds.{words_bounded, words_ranked};
 
@@ -15,7 +16,7 @@ pub struct Lex<const L: usize> {
 }
 
 impl<const L: usize> Lex<L> {
-    ghost use Rattle.gd_cost.specs.Parts.{list_of};
+    ghost use Rattle.gd_cost.specs.Made.{list_of};
 
     /// The cost of these words, the one that decides first at the front.
     pub fn of(words: [i128; L]) -> Lex<L>

@@ -10,7 +10,8 @@ mod pair;
 mod word;
 
 ghost use Rattle.std.specs.Prelude.{◌≡◌, ℕ, ℤ, pos, ◌^◌, Bool, IsTrue};
-ghost use Rattle.gd_scale.specs.Scale.{Scale, IsLawful, IsBounded, IsRanked, multiple};
+ghost use Rattle.gd_scale.specs.Scale.{Scale, multiple};
+ghost use Rattle.gd_scale.specs.Laws.{IsLawful, IsBounded, IsRanked};
 
 pub use by_class::{ByClass, Tariff};
 pub use lex::Lex;

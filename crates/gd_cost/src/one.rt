@@ -1,7 +1,8 @@
 //! A single number.
 
 ghost use Rattle.std.specs.Prelude.{◌≡◌, ℤ};
-ghost use Rattle.gd_scale.specs.Words.{whole, word_fits, word_size, word_rank};
+ghost use Rattle.gd_scale.specs.Words.{word_fits};
+ghost use Rattle.gd_scale.specs.Sizes.{whole, word_size, word_rank};
 ghost use Rattle.gd_scale.proofs.Words.{whole_lawful};
 ghost use Rattle.gd_scale.proofs.Bounds.{whole_bounded, whole_ranked};
 
@@ -15,7 +16,7 @@ pub struct One {
 }
 
 impl One {
-    ghost use Rattle.gd_cost.specs.Parts.{number_of};
+    ghost use Rattle.gd_cost.specs.Made.{number_of};
 
     /// The cost of this number.
     pub fn of(number: i128) -> One
@@ -33,7 +34,7 @@ impl One {
 }
 
 impl Cost for One {
-    ghost use Rattle.gd_cost.specs.Parts.{number_of};
+    ghost use Rattle.gd_cost.specs.Made.{number_of};
 
     ghost Meaning = { ℤ };
 

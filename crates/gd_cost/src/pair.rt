@@ -1,7 +1,8 @@
 //! Pairs of values, of which the first decides before the second.
 
 ghost use Rattle.std.specs.Prelude.{◌≡◌};
-ghost use Rattle.gd_scale.specs.Words.{both, both_fit, both_size, both_rank};
+ghost use Rattle.gd_scale.specs.Words.{both};
+ghost use Rattle.gd_scale.specs.Sizes.{both_fit, both_size, both_rank};
 ghost use Rattle.gd_scale.proofs.Words.{both_lawful};
 ghost use Rattle.gd_scale.proofs.Bounds.{both_bounded, both_ranked};
 
@@ -16,7 +17,7 @@ pub struct Pair<A, B> {
 }
 
 impl<A: Copy, B: Copy> Pair<A, B> {
-    ghost use Rattle.gd_cost.specs.Parts.{first_of, second_of};
+    ghost use Rattle.gd_cost.specs.Made.{first_of, second_of};
 
     /// The cost of these two parts.
     pub fn of(first: A, second: B) -> Pair<A, B>

@@ -4,7 +4,8 @@ use Rattle.std.proofs.lemmas.List.{take_more, take_all}
 use Rattle.std.proofs.lemmas.Option.{slice_get-get_or}
 use Rattle.std.proofs.lemmas.Bool.{eqb-true, false≢true}
 use Rattle.gd_system.specs.Pipeline.{Pipeline}
-use Rattle.gd_certificate.specs.Cutting.{Members, IsShaped}
+use Rattle.gd_certificate.specs.Cutting.{Members}
+use Rattle.gd_certificate.specs.Explained.{IsShaped}
 use Rattle.gd_machine.specs.declared.event.Event.{Event}
 use Rattle.gd_machine.specs.declared.event.Event.TheVariants as event
 use Rattle.gd_machine.specs.declared.reply.Reply.{Reply}

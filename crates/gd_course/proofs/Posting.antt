@@ -9,7 +9,7 @@ use Rattle.gd_machine.specs.declared.reply.Reply.{Reply as BookReply}
 use Rattle.gd_machine.specs.declared.refusal.Refusal.{Refusal}
 use Rattle.gd_machine.specs.Day.{Day}
 use Rattle.gd_machine.specs.History.{History}
-use Rattle.gd_machine.specs.Machine.{Step}
+use Rattle.gd_machine.specs.Steps.{Step}
 use Rattle.gd_book.specs.Postings.{AllPosted, Posts}
 use Rattle.gd_book.proofs.Posting.{all_more, same_stays}
 use Rattle.gd_replies.specs.declared.call.Call.{Call}

@@ -14,7 +14,7 @@ use Rattle.gd_machine.specs.declared.refusal.Refusal.{Refusal}
 use Rattle.gd_machine.specs.Day.{Day}
 use Rattle.gd_machine.specs.History.{History, is_frozen}
 use Rattle.gd_machine.specs.Asking.{question}
-use Rattle.gd_machine.specs.Machine.{Step}
+use Rattle.gd_machine.specs.Steps.{Step}
 use Rattle.gd_replies.specs.Days.{TellsUncertified}
 use Rattle.gd_replies.specs.declared.call.Call.{Call}
 use Rattle.gd_replies.specs.declared.call.Call.TheVariants as call

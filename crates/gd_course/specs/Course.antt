@@ -5,7 +5,8 @@ use Rattle.gd_cost.specs.declared.lex.Lex.{Lex}
 use Rattle.gd_cost.specs.declared.pair.Pair.{Pair}
 use Rattle.gd_system.specs.Pipeline.{Pipeline}
 use Rattle.gd_certificate.specs.Checked.{Certificate, IsRight}
-use Rattle.gd_certificate.specs.Cutting.{Members, IsShaped, Cuts}
+use Rattle.gd_certificate.specs.Cutting.{Members}
+use Rattle.gd_certificate.specs.Explained.{IsShaped, Cuts}
 use Rattle.gd_certificate.specs.InForce.{ExplainsTariff}
 use Rattle.gd_certificate.specs.declared.CertFault.{CertFault}
 use Rattle.gd_machine.specs.declared.event.Event.TheVariants as event

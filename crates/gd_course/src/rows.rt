@@ -2,7 +2,8 @@
 
 ghost use Rattle.std.specs.Prelude.{◌≡◌, ◌++◌, ◌∷◌, [], IfOk};
 ghost use Rattle.gd_machine.specs.History.{History};
-ghost use Rattle.gd_machine.specs.Machine.{Step, IsAccepted};
+ghost use Rattle.gd_machine.specs.Machine.{IsAccepted};
+ghost use Rattle.gd_machine.specs.Steps.{Step};
 ghost use Rattle.gd_machine.specs.declared.event.Event.{Event as AnEvent};
 ghost use Rattle.gd_machine.specs.declared.reply.Reply.{Reply as ABookReply};
 ghost use Rattle.gd_course.specs.CallRows as spec;

@@ -1,7 +1,8 @@
 -- The contracts that the rows of a text put on its pipeline.
 use Rattle.std.specs.Prelude.{ℕ, List, Result, Ok}
 use Rattle.gd_system.specs.Pipeline.{Pipeline}
-use Rattle.gd_contracts.specs.Holdings.{Holdings, none_on, after_contract}
+use Rattle.gd_contracts.specs.Holdings.{Holdings}
+use Rattle.gd_contracts.specs.Adding.{none_on, after_contract}
 use Rattle.gd_contracts.specs.declared.ContractFault.{ContractFault}
 use Rattle.gd_contracts.specs.declared.ContractFault.TheVariants as contract
 use Rattle.gd_text_part.specs.declared.fault.Cause.TheVariants as cause

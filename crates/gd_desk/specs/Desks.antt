@@ -2,7 +2,7 @@
 use Rattle.std.specs.Prelude.{◌≡◌, ℕ, ◌+◌, true, false, List, [], ◌∷◌, Option, Some, None, Result, IfOk, codes}
 use Rattle.gd_question.specs.Posing.{Posed}
 use Rattle.gd_certificate.specs.Checked.{IsRight}
-use Rattle.gd_certificate.specs.Cutting.{IsShaped, Cuts}
+use Rattle.gd_certificate.specs.Explained.{IsShaped, Cuts}
 use Rattle.gd_machine.specs.declared.event.Event.{Event}
 use Rattle.gd_machine.specs.declared.event.Event.TheVariants.{Freeze, Publish, Declare}
 use Rattle.gd_machine.specs.Day.{Day}

@@ -1,7 +1,7 @@
 -- What a repair answers.
 use Rattle.std.specs.Prelude.{◌≡◌, length}
 use Rattle.gd_question.specs.Posing.{Posed}
-use Rattle.gd_certificate.specs.Cutting.{IsShaped, Cuts}
+use Rattle.gd_certificate.specs.Explained.{IsShaped, Cuts}
 use Rattle.gd_network.specs.Arcs.{Net}
 use Rattle.gd_network.specs.Flow.{IsCirculation, IsWithin}
 use Rattle.gd_flow.specs.declared.mending.Repaired.{Repaired}

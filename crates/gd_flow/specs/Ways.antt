@@ -1,6 +1,6 @@
 -- What closes a step that mends an arc.
 use Rattle.std.specs.Prelude.{ℤ, List}
-use Rattle.gd_certificate.specs.Cutting.{IsShaped, Cuts}
+use Rattle.gd_certificate.specs.Explained.{IsShaped, Cuts}
 use Rattle.gd_network.specs.Beginning.{Laid}
 use Rattle.gd_network.specs.declared.walks.Step.{Step}
 use Rattle.gd_flow.specs.Search.{Closes}

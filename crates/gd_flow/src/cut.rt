@@ -2,7 +2,8 @@
 
 ghost use Rattle.std.specs.Prelude.{◌≡◌, ℕ, ◌+◌, ◌<◌, ◌≤◌, ◌^◌, length, get_or, false, IfOk};
 ghost use Rattle.gd_network.specs.Flow.{IsSideOf};
-ghost use Rattle.gd_certificate.specs.Cutting.{side_of, IsShaped};
+ghost use Rattle.gd_certificate.specs.Cutting.{side_of};
+ghost use Rattle.gd_certificate.specs.Explained.{IsShaped};
 
 use gd_certificate::Cut;
 use gd_network::{Network, elements_bring};

@@ -1,7 +1,7 @@
 //! The repair of a flow that is out of bounds.
 
 ghost use Rattle.std.specs.Prelude.{◌<◌, length, IfOk, OnOk, MatchOption};
-ghost use Rattle.gd_certificate.specs.Cutting.{IsShaped, Cuts};
+ghost use Rattle.gd_certificate.specs.Explained.{IsShaped, Cuts};
 ghost use Rattle.gd_network.specs.Flow.{IsWithin};
 ghost use Rattle.gd_network.specs.Steps.{IsNearer, Mends};
 ghost use Rattle.gd_flow.specs.Keeping.{IsKept, Holds};

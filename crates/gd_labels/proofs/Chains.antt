@@ -8,7 +8,8 @@ use Rattle.std.proofs.Math.ListN.{get_or-append}
 use Rattle.std.specs.List.{IsDistinct, list_any}
 use Rattle.std.proofs.lemmas.Map.Steps.{length-le_from_distinct_below}
 use Rattle.std.proofs.lemmas.Bool.Decides.{nat_tests}
-use Rattle.gd_scale.specs.Scale.{Scale, IsBounded, IsRanked}
+use Rattle.gd_scale.specs.Scale.{Scale}
+use Rattle.gd_scale.specs.Laws.{IsBounded, IsRanked}
 use Rattle.gd_labels.specs.Links.{node_at}
 use Rattle.gd_labels.specs.Findings.{label_at}
 use Rattle.gd_labels.specs.Events.{above, Chain, NotIn, AreEvents, slack}

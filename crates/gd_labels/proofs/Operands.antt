@@ -2,7 +2,8 @@
 use Rattle.std.proofs.Common.{◌≡◌, ℕ, ◌*◌, ◌^◌, ◌<◌, List, length, map, get_or, Bool, IsTrue, sym, ◌∙◌, ap₂, arith}
 use Rattle.std.specs.Prelude.{ℤ, pos}
 use Rattle.std.proofs.lemmas.List.{get_or_default}
-use Rattle.gd_scale.specs.Scale.{Scale, IsBounded}
+use Rattle.gd_scale.specs.Scale.{Scale}
+use Rattle.gd_scale.specs.Laws.{IsBounded}
 use Rattle.gd_labels.specs.Links.{node_at, AreLinks}
 use Rattle.gd_labels.specs.Findings.{label_at}
 use Rattle.gd_labels.specs.Events.{AreEvents, above, reached_at, improves_at}

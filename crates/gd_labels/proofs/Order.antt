@@ -7,7 +7,8 @@ use Rattle.std.specs.Ordering.{is_gt, ordering_reverse}
 use Rattle.std.specs.Cmp.{upto, tied_itself, ranked}
 use Rattle.std.proofs.lemmas.List.{get_or-map, length-map}
 use borrow.Author.Differences.{ints}
-use Rattle.gd_scale.specs.Scale.{Scale, IsLawful, IsBounded, IsRanked}
+use Rattle.gd_scale.specs.Scale.{Scale}
+use Rattle.gd_scale.specs.Laws.{IsLawful, IsBounded, IsRanked}
 use Rattle.gd_scale.proofs.Group.{neutral_left}
 use Rattle.gd_labels.specs.Events.{above}
 

@@ -2,7 +2,8 @@
 use Rattle.std.proofs.Common.{◌≡◌, ◌≢◌, ℕ, ◌<◌, ◌≤◌, List, [], ◌∷◌, ◌++◌, length, Bool, true, false, refl, sym, ◌∙◌, ap, arith, get_or}
 use Rattle.std.specs.Prelude.{ℤ}
 use Rattle.std.proofs.lemmas.Bool.Decides.{nat_tests}
-use Rattle.gd_scale.specs.Scale.{Scale, IsLawful, IsAbove}
+use Rattle.gd_scale.specs.Scale.{Scale, IsAbove}
+use Rattle.gd_scale.specs.Laws.{IsLawful}
 use Rattle.gd_labels.specs.Links.{node_at, Trail, gain_of}
 use Rattle.gd_labels.specs.Findings.{label_at}
 use Rattle.gd_labels.specs.Events.{above, AreEvents, Chain, NotIn}

@@ -8,7 +8,8 @@ use Rattle.std.proofs.lemmas.List.{map-append}
 use Rattle.std.proofs.lemmas.List.Elements.{All-push, All-filter, filter-append}
 use Rattle.std.proofs.lemmas.List.Quantifiers.{all_pairs_push}
 use Rattle.std.proofs.Math.Seq.{take-length}
-use Rattle.gd_rules.specs.Lines.{Key, Nomination, no_key, same_key, same_name, entered, lines_of, of_line, until, last_quantity, nominated, committed, lines_until}
+use Rattle.gd_rules.specs.Lines.{Key, Nomination, no_key, same_key, same_name, entered, lines_of, of_line, until, last_quantity, committed}
+use Rattle.gd_rules.specs.Lists.{nominated, lines_until}
 use Rattle.gd_lines.specs.Kept.{nomination_of, no_state, blank, EachLine, TellsNominated, TellsClass, Counts, IsBounded, IsFirstClass, AreKept}
 use Rattle.gd_lines.specs.declared.state.State.{State}
 use Rattle.gd_lines.specs.declared.state.Accepted.{Accepted}

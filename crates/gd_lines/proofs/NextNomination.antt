@@ -7,7 +7,8 @@ use Rattle.std.proofs.lemmas.List.{append-nil}
 use Rattle.std.proofs.lemmas.List.Elements.{filter-append}
 use Rattle.std.proofs.lemmas.List.Folds.{list_any-append}
 use Rattle.std.proofs.lemmas.List.Sums.{fold-append}
-use Rattle.gd_rules.specs.Lines.{Key, Nomination, same_key, entered, lines_of, of_line, until, last_quantity, nominated}
+use Rattle.gd_rules.specs.Lines.{Key, Nomination, same_key, entered, lines_of, of_line, until, last_quantity}
+use Rattle.gd_rules.specs.Lists.{nominated}
 use Rattle.gd_lines.specs.Kept.{IsFirstClass}
 use Rattle.gd_lines.proofs.Same.{key_is}
 

@@ -1,7 +1,8 @@
 -- What is kept of the accepted nominations, so that no call has to go through them all.
 use Rattle.std.specs.Prelude.{◌≡◌, ℕ, ◌-◌, ◌<◌, ◌≤◌, List, [], ◌∷◌, length, take, get_or, replicate, All}
 use Rattle.std.specs.List.{IsDistinct}
-use Rattle.gd_rules.specs.Lines.{Key, Nomination, no_key, same_key, lines_of, of_line, nominated, committed, lines_until, IsRising}
+use Rattle.gd_rules.specs.Lines.{Key, Nomination, no_key, same_key, lines_of, of_line, committed}
+use Rattle.gd_rules.specs.Lists.{nominated, lines_until, IsRising}
 use Rattle.gd_rules.specs.Limits.{cycles, most_dekatherms, most_lines}
 use Rattle.gd_lines.specs.declared.state.State.{State}
 use Rattle.gd_lines.specs.declared.state.Accepted.{Accepted}

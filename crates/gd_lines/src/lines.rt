@@ -6,6 +6,7 @@ ghost use Rattle.indexmap.specs.IndexSet.{IsUnique, spare as key_spare};
 ghost use Rattle.indexmap.specs.IndexMap.{get, spare as sum_spare};
 ghost use Rattle.std.specs.List.{position_or_len};
 ghost use Rattle.gd_rules.specs.Lines as rules;
+ghost use Rattle.gd_rules.specs.Lists as lists;
 ghost use Rattle.gd_lines.specs.Kept.{no_state, blank};
 ghost use Rattle.gd_lines.specs.Numbering.{numbered, nomination};
 
@@ -270,7 +271,7 @@ impl Lines {
     /// The class of a line.
     pub fn class(&self, line: u32) -> Class
         requires { line < length (rules.lines_of self.now) }
-        ensures { result ≡ rules.class_of_line self.now (rules.line_key self.now line) }
+        ensures { result ≡ lists.class_of_line self.now (rules.line_key self.now line) }
     {
         self.states[line as usize].class
     }
@@ -278,7 +279,7 @@ impl Lines {
     /// What is nominated on a line for a cycle: the last quantity accepted for it or for a former cycle, else 0.
     pub fn nominated(&self, line: u32, cycle: CycleNo) -> Dth
         requires { line < length (rules.lines_of self.now) }
-        ensures { result ≡ rules.nominated self.now (rules.line_key self.now line) cycle }
+        ensures { result ≡ lists.nominated self.now (rules.line_key self.now line) cycle }
     {
         self.states[line as usize].nominated[usize::from(cycle.number()) - 1]
     }
@@ -293,8 +294,8 @@ impl Lines {
 
     /// How many lines are nominated for this cycle or a former one. They are the first ones.
     pub fn lines_until(&self, cycle: CycleNo) -> usize
-        ensures count { result ≡ length (rules.lines_until self.now cycle) }
-        ensures first { rules.lines_until self.now cycle ≡ take result (rules.lines_of self.now) }
+        ensures count { result ≡ length (lists.lines_until self.now cycle) }
+        ensures first { lists.lines_until self.now cycle ≡ take result (rules.lines_of self.now) }
     {
         self.counts[usize::from(cycle.number()) - 1] as usize
     }
@@ -302,7 +303,7 @@ impl Lines {
     /// The accepted nominations for one cycle, each with its line's number and its quantity, in order of acceptance.
     pub fn intake(&self, alloc: Global, cycle: CycleNo) -> Result<Vec<(u32, Dth)>, AllocError>
         ensures { IfOk result (λ taken.
-            map (λ e. (Some e.0, e.1)) taken.items ≡ rules.numbered_intake self.now cycle) }
+            map (λ e. (Some e.0, e.1)) taken.items ≡ lists.numbered_intake self.now cycle) }
     {
         taken(alloc, &self.accepted, cycle)
     }
@@ -310,12 +311,12 @@ impl Lines {
     /// What holds of all lines: the cycles of their nominations never fall, there are at most 20,000, the key of each
     /// finds it, and what is nominated on it for the last cycle is within the sum of its contract.
     pub fn known(&self)
-        ensures rising { rules.IsRising self.now }
+        ensures rising { lists.IsRising self.now }
         ensures few { length (rules.lines_of self.now) ≤ MAX_LINES }
         ensures found { (line : ℕ) → line < length (rules.lines_of self.now)
             → rules.find self.now (rules.line_key self.now line) ≡ Some line }
         ensures within { (key : rules.Key)
-            → rules.nominated self.now key 5 ≤ rules.committed self.now key.contract }
+            → lists.nominated self.now key 5 ≤ rules.committed self.now key.contract }
     {
         let _keys = &self.keys;
     }

@@ -1,8 +1,9 @@
 //! Three links in a ring.
 
 ghost use Rattle.std.specs.Prelude.{map, pos, IfOk, IsTrue};
-ghost use Rattle.gd_scale.specs.Words.{whole, word_fits};
-ghost use Rattle.gd_cost.specs.Parts.{number_of};
+ghost use Rattle.gd_scale.specs.Words.{word_fits};
+ghost use Rattle.gd_scale.specs.Sizes.{whole};
+ghost use Rattle.gd_cost.specs.Made.{number_of};
 ghost use Rattle.gd_labels.specs.Links.{AreLinks};
 
 use gd_cost::One;

@@ -1,16 +1,17 @@
 -- The lines of each question lead from one end to another over their routes, and their numbers are within bounds.
 use Rattle.std.proofs.Common.{◌≡◌, ℕ, zero, suc, ◌<◌, ◌≤◌, List, [], ◌∷◌, length, get_or, set, refl, sym, subst, ap, ◌∙◌}
-use Rattle.gd_rules.specs.Question.{Element}
+use Rattle.gd_rules.specs.Question.{Element, place_of}
 use Rattle.gd_rules.specs.Question.Element.{Segment, Receipt, Delivery, Pool}
-use Rattle.gd_rules.specs.Tree.{IsLine, HasLines, IsRoute, place_of}
+use Rattle.gd_rules.specs.Tree.{IsLine, HasLines, IsRoute}
 use Rattle.gd_rules.specs.Limits.{classes}
 use Rattle.gd_tree.specs.Grown.{route_of}
 use Rattle.gd_tree.proofs.Directions.{routes}
 use Rattle.gd_system.specs.Pipeline.{Pipeline, elements_of}
-use Rattle.gd_system.specs.Route.{AreEnds}
+use Rattle.gd_system.specs.Ends.{AreEnds}
 use Rattle.gd_system.specs.declared.part.Ends.{Ends}
 use Rattle.gd_system.proofs.NamedEnds.{told_are}
-use Rattle.gd_question.specs.Posing.{with_limit, line_between}
+use Rattle.gd_question.specs.Posing.{line_between}
+use Rattle.gd_question.specs.InForce.{with_limit}
 use Rattle.gd_question.proofs.InForceLemmas.{Alike, place-alike, sends-alike, takes-alike, follows-alike}
 use Rattle.gd_machine.specs.declared.event.Event.{Event}
 use Rattle.gd_machine.specs.declared.event.Event.TheVariants.{PostCapacity}

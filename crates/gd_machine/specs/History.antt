@@ -5,7 +5,7 @@ use Rattle.std.specs.List.{count_by}
 use Rattle.gd_rules.specs.Question.{Element}
 use Rattle.gd_rules.specs.Question.Element.{Pool}
 use Rattle.gd_rules.specs.Schedule.{quantity}
-use Rattle.gd_question.specs.Posing.{with_limit}
+use Rattle.gd_question.specs.InForce.{with_limit}
 use Rattle.gd_units.specs.declared.service.End.{End}
 use Rattle.gd_units.specs.declared.service.End.TheVariants.{Origin, Dest}
 use Rattle.gd_machine.specs.declared.event.Event.{Event}
@@ -64,16 +64,6 @@ frozen_after frozen event = frozen
 -- The last freeze was not yet answered by a schedule or a cut.
 abbrev pub is_frozen : History → Bool
 is_frozen h = fold (λ frozen p. frozen_after frozen p.0) false h
-
--- A nomination, a response or a capacity is the call of a session.
-abbrev pub is_session_call : Event → Bool
-is_session_call (Nominate moment party key quantity) = true
-is_session_call (Respond moment party line end quantity) = true
-is_session_call (PostCapacity moment element capacity) = true
-is_session_call event = false
-
-abbrev pub session_calls : History → ℕ
-session_calls h = count_by (λ p. is_session_call p.0) h
 
 -- ---- what holds for one cycle: it is forgotten where the cycle ends
 

@@ -1,8 +1,10 @@
 pub mod Day
 pub mod History
+pub mod Sessions
 pub mod Asking
 pub mod Same
 pub mod Machine
+pub mod Steps
 pub mod Headline
 pub mod Known
 pub mod Names

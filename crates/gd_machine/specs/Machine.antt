@@ -1,5 +1,5 @@
 -- The book of a gas day as a machine over its history: what each event is answered, and why it is refused.
-use Rattle.std.specs.Prelude.{◌≡◌, ℕ, ◌+◌, ◌==◌, ◌&&◌, Bool, true, false, not, nat_le, nat_lt, List, [], ◌∷◌, ◌++◌, length, take, get_or, slice_get, is_some, Option, Some, None, Result, Ok, Err, if◌then◌else◌, ◌≤◌, ◌⊎◌}
+use Rattle.std.specs.Prelude.{◌≡◌, ℕ, ◌+◌, ◌==◌, ◌&&◌, Bool, true, false, not, nat_le, nat_lt, List, [], ◌∷◌, ◌++◌, length, take, get_or, slice_get, is_some, Option, Some, None, Result, Ok, Err, if◌then◌else◌}
 use Rattle.std.specs.Option.{is_none, unwrap_or}
 use Rattle.std.specs.Result.{is_err}
 use Rattle.gd_rules.specs.Limits.{cycles}
@@ -7,7 +7,7 @@ use Rattle.gd_rules.specs.Question.{Question}
 use Rattle.gd_rules.specs.Question.Element.{Pool}
 use Rattle.gd_rules.specs.Cut.{Side, must_leave, may_enter, can_leave}
 use Rattle.gd_rules.specs.Lines as lines
-use Rattle.gd_rules.specs.Lines.{Key, Nomination, committed}
+use Rattle.gd_rules.specs.Lines.{Key, committed}
 use Rattle.gd_units.specs.declared.service.End.{End}
 use Rattle.gd_units.specs.declared.service.End.TheVariants.{Origin, Dest}
 use Rattle.gd_system.specs.Pipeline.{Pipeline, same_name, elements_of, element_number, operator_at}
@@ -17,7 +17,8 @@ use Rattle.gd_system.specs.declared.RouteFault.{RouteFault}
 use Rattle.gd_contracts.specs.Holdings.{contract_named}
 use Rattle.gd_contracts.specs.declared.contract.Contract.{Contract}
 use Rattle.gd_lines.specs.Numbering.{nomination, numbered}
-use Rattle.gd_question.specs.Posing.{Posed, limit_fault}
+use Rattle.gd_question.specs.Posing.{Posed}
+use Rattle.gd_question.specs.InForce.{limit_fault}
 use Rattle.gd_certificate.specs.Checked.{IsRight}
 use Rattle.gd_certificate.specs.Cutting.{Members, side_of}
 use Rattle.gd_certificate.specs.declared.cut.CutFault.TheVariants.{Shape, NotCut}
@@ -28,7 +29,7 @@ use Rattle.gd_machine.specs.declared.event.Event.TheVariants.{Nominate, Respond,
 use Rattle.gd_machine.specs.declared.reply.Reply.{Reply}
 use Rattle.gd_machine.specs.declared.reply.Reply.TheVariants.{Accepted, Done, Frozen as Froze, Published, Declared}
 use Rattle.gd_machine.specs.declared.refusal.Refusal.{Refusal}
-use Rattle.gd_machine.specs.declared.refusal.Refusal.TheVariants.{DayClosed, UnknownContract, NotShipper, Route, OverContract, TooManyLines, TooManyEvents, AllSettled, Frozen, UnknownLine, NotOperator, UnknownElement, IsPool, TooEarly, NotFrozen, StaleRound, OtherQuestion, NoCutProof, NoCut, OutOfMemory, BoardTaken}
+use Rattle.gd_machine.specs.declared.refusal.Refusal.TheVariants.{DayClosed, UnknownContract, NotShipper, Route, OverContract, TooManyLines, TooManyEvents, AllSettled, Frozen, UnknownLine, NotOperator, UnknownElement, IsPool, TooEarly, NotFrozen, StaleRound, OtherQuestion, NoCutProof, NoCut}
 use Rattle.gd_machine.specs.Day.{Day, cycle_at, deadline}
 use Rattle.gd_machine.specs.History.{History, stamp_of, cycle_of, round_of, is_frozen, has_cut}
 use Rattle.gd_machine.specs.Asking.{nominations, key_of, line_count, question, bumped_lines}
@@ -185,31 +186,13 @@ reply_of day h (Skip moment) = Done (number_of h)
 
 -- ---- steps
 
-abbrev pub IsPublish : Event → Type 0
-IsPublish (Publish moment certificate) = Unit {0}
-IsPublish event = ⊥
-
 -- No refusal applies, and the reply is the machine's.
 abbrev pub IsAccepted : Day → History → Event × Reply → Type 0
 IsAccepted day h p = (refusal_of day h p.0 ≡ None) × (p.1 ≡ reply_of day h p.0)
 
--- The machine may refuse the event so: by the first refusal that applies, for want of memory, or where a publish meets no refusal and the board is taken.
-abbrev pub MayRefuse : Day → History → Event → Refusal → Type 0
-MayRefuse day h event refusal =
-    (refusal_of day h event ≡ Some refusal) ⊎ (refusal ≡ OutOfMemory) ⊎ ((refusal ≡ BoardTaken) × IsPublish event × (refusal_of day h event ≡ None))
-
--- One step: the machine may give this answer to the event, and go on to the history after.
-abbrev pub Step : Day → History → Event → Result Reply Refusal → History → Type 0
-Step day h event (Ok reply) after = IsAccepted day h (event, reply) × (after ≡ h ++ (event, reply) ∷ [])
-Step day h event (Err refusal) after = MayRefuse day h event refusal × (after ≡ h)
-
 -- Each pair is the machine's accepted step after the pairs before it.
 abbrev pub IsLegal : Day → History → Type 0
 IsLegal day h = (k : ℕ) (p : Event × Reply) → slice_get h k ≡ Some p → IsAccepted day (take k h) p
-
--- A refusal fits a length if it is a possible answer after so many pairs.
-abbrev pub Fits : Day → History → ℕ → Event → Refusal → Type 0
-Fits day h k event refusal = (k ≤ length h) × MayRefuse day (take k h) event refusal
 
 -- What the type of a certificate keeps: it passed the check.
 abbrev pub Passes : Event → Type 0

@@ -3,7 +3,8 @@ use Rattle.std.proofs.Common.{◌≡◌, ℕ, ◌+◌, ◌*◌, ◌^◌, ◌<◌
 use Rattle.std.specs.Prelude.{ℤ, pos, ◌≤ℤ◌}
 use Rattle.std.proofs.Math.Seq.{take-append_seam}
 use borrow.Author.Differences.{ints}
-use Rattle.gd_scale.specs.Scale.{Scale, IsBounded, AtMost}
+use Rattle.gd_scale.specs.Scale.{Scale, AtMost}
+use Rattle.gd_scale.specs.Laws.{IsBounded}
 use Rattle.gd_rules.specs.Question.{Question}
 use Rattle.gd_network.specs.Arcs.{Net, from_at, to_at}
 use Rattle.gd_network.specs.declared.walks.Step.{Step}

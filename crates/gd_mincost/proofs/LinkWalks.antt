@@ -3,7 +3,8 @@ use Rattle.std.proofs.Common.{◌≡◌, ℕ, zero, suc, ◌-◌, ◌<◌, List,
 use Rattle.std.specs.Prelude.{ℤ, pos, ◌≤ℤ◌, ◌<ℤ◌}
 use Rattle.std.proofs.lemmas.List.{reverse-append, length-reverse, length-map, get_or-reverse, get_or-map}
 use borrow.Author.Differences.{ints}
-use Rattle.gd_scale.specs.Scale.{Scale, IsLawful, IsAbove}
+use Rattle.gd_scale.specs.Scale.{Scale, IsAbove}
+use Rattle.gd_scale.specs.Laws.{IsLawful}
 use Rattle.gd_network.specs.Arcs.{Net, from_at, to_at}
 use Rattle.gd_network.specs.declared.walks.Step.{Step}
 use Rattle.gd_network.specs.Steps.{tail_of, head_of, room, Follows, AreSteps, Once, HasRooms}

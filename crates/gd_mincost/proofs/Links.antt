@@ -6,7 +6,8 @@ use Rattle.std.proofs.lemmas.Bool.{cases_lt}
 use Rattle.std.proofs.lemmas.List.{length_push, get_or_append_left, get_or_push}
 use Rattle.std.specs.Int.{w64}
 use borrow.Author.Differences.{ints}
-use Rattle.gd_scale.specs.Scale.{Scale, IsBounded, AtMost}
+use Rattle.gd_scale.specs.Scale.{Scale, AtMost}
+use Rattle.gd_scale.specs.Laws.{IsBounded}
 use Rattle.gd_network.specs.declared.arcs.Arc.{Arc}
 use Rattle.gd_network.specs.Arcs.{Net, arc_at, from_at, to_at, lower_at, upper_at}
 use Rattle.gd_network.specs.Beginning.{AreSound}

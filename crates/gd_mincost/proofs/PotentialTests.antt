@@ -3,7 +3,8 @@ use Rattle.std.proofs.Common.{◌≡◌, ℕ, ◌+◌, ◌^◌, ◌<◌, List, l
 use Rattle.std.specs.Prelude.{ℤ, pos}
 use Rattle.std.proofs.lemmas.List.{length-map}
 use borrow.Author.Differences.{ints}
-use Rattle.gd_scale.specs.Scale.{Scale, IsLawful, IsBounded, AtMost}
+use Rattle.gd_scale.specs.Scale.{Scale, AtMost}
+use Rattle.gd_scale.specs.Laws.{IsLawful, IsBounded}
 use Rattle.gd_scale.proofs.Group.{neutral_left}
 use Rattle.gd_rules.specs.Question.{Question}
 use Rattle.gd_network.specs.declared.arcs.Arc.{Arc}

@@ -10,7 +10,8 @@ use Rattle.std.proofs.lemmas.List.{get_or-set_other, length-set}
 use Rattle.std.proofs.lemmas.Grind.{get_or-set_at}
 use Rattle.std.proofs.Math.Nat.{suc-mul}
 use borrow.Author.Differences.{ints}
-use Rattle.gd_scale.specs.Scale.{Scale, IsLawful, IsBounded, IsRanked, repeated, multiple, total_below, AtMost, IsAbove}
+use Rattle.gd_scale.specs.Scale.{Scale, repeated, multiple, total_below, AtMost, IsAbove}
+use Rattle.gd_scale.specs.Laws.{IsLawful, IsBounded, IsRanked}
 use Rattle.gd_scale.proofs.Group.{neutral_left, injective, at_most_turned, at_most_then, at_most_left, repeated_none, repeated_plus, repeated_up}
 use Rattle.gd_scale.proofs.Multiples.{multiple_add}
 use Rattle.gd_scale.proofs.Sums.{total_same}

@@ -6,7 +6,8 @@ use Rattle.std.specs.List.{range_with_len}
 use borrow.Author.Differences.{ints}
 use borrow.Author.Tests.{ltb-true, ltb-false, lt-ltb}
 use Rattle.gd_scale.specs.Sum.{sum_nat}
-use Rattle.gd_scale.specs.Scale.{Scale, less}
+use Rattle.gd_scale.specs.Scale.{Scale}
+use Rattle.gd_scale.specs.Laws.{less}
 use Rattle.gd_rules.specs.Question.{Question, element, line}
 use Rattle.gd_rules.specs.Schedule.{quantity, load}
 use Rattle.gd_network.specs.Arcs.{Net, IsNetwork, tenth_arc, element_arc, line_arc, no_arc, least_part}

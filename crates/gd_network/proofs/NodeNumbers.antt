@@ -3,9 +3,9 @@ use Rattle.std.proofs.Common.{◌≡◌, ℕ, suc, ◌+◌, ◌*◌, ◌<◌, �
 use Rattle.std.specs.Prelude.{ℤ, pos, ◌≤ℤ◌, ◌==◌}
 use borrow.Author.Differences.{ints}
 use Rattle.std.proofs.lemmas.Bool.{cases_lt}
-use Rattle.gd_rules.specs.Question.{Element, Question, element, line}
+use Rattle.gd_rules.specs.Question.{Element, Question, element, line, place_of}
 use Rattle.gd_rules.specs.Question.Element.{Segment, Receipt, Delivery, Pool}
-use Rattle.gd_rules.specs.Tree.{HasLines, place_of}
+use Rattle.gd_rules.specs.Tree.{HasLines}
 use Rattle.gd_rules.specs.Schedule.{quantity}
 use Rattle.gd_rules.specs.Spread.{tenth_end}
 use Rattle.gd_tree.specs.Grown as tree

@@ -3,7 +3,7 @@ use Rattle.std.proofs.Common.{◌≡◌, ℕ, suc, zero, ◌<◌, ◌≤◌, Lis
 use Rattle.std.specs.Prelude.{ℤ, pos, ◌+ℤ◌}
 use borrow.Author.Differences.{ints}
 use Rattle.gd_scale.specs.Sum.{sum_int}
-use Rattle.gd_scale.specs.Words.{whole}
+use Rattle.gd_scale.specs.Sizes.{whole}
 use Rattle.gd_scale.proofs.Words.{whole_lawful}
 use Rattle.gd_rules.specs.Question.{Line, Question, element, line}
 use Rattle.gd_network.specs.Arcs.{Net, from_at, to_at, lower_at, upper_at, most_of, most_part, least_part, tenth_arc}

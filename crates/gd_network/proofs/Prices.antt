@@ -5,7 +5,8 @@ use Rattle.std.proofs.lemmas.Bool.{cases_lt, cases_eq}
 use Rattle.std.proofs.lemmas.Int.{by_lt_z}
 use borrow.Author.Differences.{ints}
 use Rattle.gd_scale.specs.Sum.{sum_int}
-use Rattle.gd_scale.specs.Scale.{Scale, IsLawful, multiple, AtMost, IsAbove, less}
+use Rattle.gd_scale.specs.Scale.{Scale, multiple, AtMost, IsAbove}
+use Rattle.gd_scale.specs.Laws.{IsLawful, less}
 use Rattle.gd_rules.specs.Units.{NeverRises}
 use Rattle.gd_rules.specs.Question.{Element, Line, Question, element, line, crossing}
 use Rattle.gd_rules.specs.Question.Element.{Segment, Receipt, Delivery, Pool}

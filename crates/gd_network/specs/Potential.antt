@@ -1,6 +1,7 @@
 -- Potentials of nodes, under which no arc with room gains, and the prices that they give.
 use Rattle.std.specs.Prelude.{◌≡◌, ℕ, ◌+◌, ◌<◌, ◌<ℤ◌, ℤ, List, length}
-use Rattle.gd_scale.specs.Scale.{Scale, AtMost, less}
+use Rattle.gd_scale.specs.Scale.{Scale, AtMost}
+use Rattle.gd_scale.specs.Laws.{less}
 use Rattle.gd_rules.specs.Question.{Question, line}
 use Rattle.gd_rules.specs.Priced.{price}
 use Rattle.gd_network.specs.Arcs.{Net, from_at, to_at, lower_at, upper_at, tenth_arc}

@@ -4,7 +4,7 @@ ghost use Rattle.std.specs.Prelude.{◌≡◌, ◌+◌, ◌*◌, ◌<◌, ◌≤
 ghost use Rattle.gd_rules.specs.Limits.{most_dekatherms};
 ghost use Rattle.gd_rules.specs.Question.{line as asked_line};
 ghost use Rattle.gd_rules.specs.Spread.{tenth_end};
-ghost use Rattle.gd_system.specs.Pipeline.{element_of};
+ghost use Rattle.gd_system.specs.Parts.{element_of};
 ghost use Rattle.gd_network.specs.Arcs.{arc_count, most_of, most_part, least_part, tenth_arc, element_arc, line_arc};
 ghost use Rattle.gd_question.specs.Nodes.{start_of, stop_of};
 ghost use Rattle.gd_network.specs.Entries.{FirstArcs};

@@ -3,13 +3,14 @@
 
 ghost use Rattle.std.specs.Prelude.{◌≡◌, ◌<◌, ◌≤◌, ℕ, ℤ, Bool, false, List, length, get_or};
 ghost use Rattle.gd_scale.specs.Sum.{sum_nat};
-ghost use Rattle.gd_scale.specs.Scale.{multiple, total_below, less};
+ghost use Rattle.gd_scale.specs.Scale.{multiple, total_below};
+ghost use Rattle.gd_scale.specs.Laws.{less};
 ghost use Rattle.gd_rules.specs.Question.{Question, element, line, crossing};
 ghost use Rattle.gd_rules.specs.Schedule.{IsAllowed};
 ghost use Rattle.gd_rules.specs.Spread.{IsBest};
 ghost use Rattle.gd_rules.specs.Tree.{HasLines, IsLine};
 ghost use Rattle.gd_rules.specs.Priced.{IsPriced};
-ghost use Rattle.gd_scale.specs.Words.{whole};
+ghost use Rattle.gd_scale.specs.Sizes.{whole};
 ghost use Rattle.gd_rules.specs.Tariff.{tariff, tariff_unit};
 ghost use Rattle.gd_rules.specs.Cut.{Side, IsCut};
 ghost use Rattle.gd_system.specs.Pipeline.{Pipeline};

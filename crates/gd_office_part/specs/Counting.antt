@@ -2,7 +2,7 @@
 use Rattle.std.specs.Prelude.{◌+◌, List, fold}
 use Rattle.gd_machine.specs.declared.event.Event.{Event}
 use Rattle.gd_machine.specs.declared.event.Event.TheVariants.{Nominate, Respond, PostCapacity}
-use Rattle.gd_machine.specs.History.{session_calls}
+use Rattle.gd_machine.specs.Sessions.{session_calls}
 use Rattle.gd_machine.specs.Asking.{accepted}
 use Rattle.gd_book.specs.Kept.{Kept}
 use Rattle.gd_office_part.specs.declared.numbers.Numbers.{Numbers}

@@ -8,7 +8,7 @@ use Rattle.gd_machine.specs.declared.refusal.Refusal.TheVariants.{OutOfMemory}
 use Rattle.gd_machine.specs.Day.{Day}
 use Rattle.gd_machine.specs.History.{History}
 use Rattle.gd_machine.specs.Headline.{IsHistoryOf}
-use Rattle.gd_machine.specs.Machine.{Step}
+use Rattle.gd_machine.specs.Steps.{Step}
 use Rattle.gd_book.specs.Postings.{Posts}
 use Rattle.gd_office_part.specs.declared.kept.Receipt.{Receipt}
 use Rattle.gd_office_part.specs.declared.kept.Told.{Told}

@@ -11,7 +11,7 @@ ghost use Rattle.gd_machine.specs.Day.{Day};
 ghost use Rattle.gd_machine.specs.History.{History, cycle_of, is_frozen};
 ghost use Rattle.gd_machine.specs.Asking.{question};
 ghost use Rattle.gd_machine.specs.Headline.{IsHistoryOf};
-ghost use Rattle.gd_machine.specs.Machine.{Step};
+ghost use Rattle.gd_machine.specs.Steps.{Step};
 ghost use Rattle.gd_book.specs.Postings.{Posts};
 ghost use Rattle.gd_office_part.specs.declared.kept.TheConstants.{MAX_SESSIONS};
 ghost use Rattle.gd_office_part.specs.declared.session.OfficeFault.TheVariants as fault;

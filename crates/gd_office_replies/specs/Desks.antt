@@ -1,7 +1,7 @@
 -- The rows that tell what a desk is told.
 use Rattle.std.specs.Prelude.{ℕ, List, [], ◌∷◌, ◌++◌, Option, Some, None}
 use Rattle.gd_question.specs.Posing.{Posed}
-use Rattle.gd_certificate.specs.Cutting.{IsShaped}
+use Rattle.gd_certificate.specs.Explained.{IsShaped}
 use Rattle.gd_machine.specs.declared.event.Event.{Event}
 use Rattle.gd_machine.specs.declared.event.Event.TheVariants as event
 use Rattle.gd_machine.specs.declared.reply.Reply.{Reply as BookReply}

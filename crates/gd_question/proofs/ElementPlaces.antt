@@ -6,9 +6,8 @@ use Rattle.gd_rules.specs.Question.Element.{Segment, Receipt, Delivery, Pool}
 use Rattle.gd_tree.specs.Grown.{Joins, IsNoSegment, IsGrown}
 use Rattle.gd_system.specs.Pipeline.{Pipeline, elements_of}
 use Rattle.gd_system.specs.Known.{IsSystem}
-use Rattle.gd_question.specs.Posing.{with_limit}
-use Rattle.gd_question.specs.InForce.{in_force}
-use Rattle.gd_rules.specs.Tree.{place_of}
+use Rattle.gd_question.specs.InForce.{with_limit, in_force}
+use Rattle.gd_rules.specs.Question.{place_of}
 use Rattle.gd_question.specs.Nodes.{Brings}
 use Rattle.gd_question.specs.Placing.{IsPlaced}
 use Rattle.gd_question.proofs.InForceLemmas.{Alike, alike, length-in_force, place-alike}

@@ -1,10 +1,9 @@
 -- Other capacities change what may pass, and nothing else.
 use Rattle.std.proofs.Common.{◌≡◌, ℕ, zero, suc, ◌<◌, ◌≤◌, List, [], ◌∷◌, get_or, set, length, refl, sym, ap, ◌∙◌, subst, arith}
-use Rattle.gd_rules.specs.Question.{Element}
+use Rattle.gd_rules.specs.Question.{Element, place_of}
 use Rattle.gd_rules.specs.Question.Element.{Segment, Receipt, Delivery, Pool}
-use Rattle.gd_rules.specs.Tree.{LeadsTo, Follows, IsRoute, place_of, CanSend, CanTake}
-use Rattle.gd_question.specs.Posing.{with_limit}
-use Rattle.gd_question.specs.InForce.{in_force}
+use Rattle.gd_rules.specs.Tree.{LeadsTo, Follows, IsRoute, CanSend, CanTake}
+use Rattle.gd_question.specs.InForce.{with_limit, in_force}
 
 pub length-in_force : (elements : List Element) (limits : List ℕ) → length (in_force elements limits) ≡ length elements
 length-in_force [] limits = refl

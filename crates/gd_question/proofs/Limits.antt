@@ -13,10 +13,9 @@ use Rattle.gd_system.specs.declared.part.Pool as code
 use Rattle.gd_system.specs.Pipeline.{Pipeline, elements_of, point_element}
 use Rattle.gd_system.specs.Route.{element_at}
 use Rattle.gd_system.specs.Known.{IsSystem}
-use Rattle.gd_question.specs.Posing.{with_limit, limit_fault}
+use Rattle.gd_question.specs.InForce.{with_limit, limit_fault, in_force}
 use Rattle.gd_question.specs.Known.{limit_of}
-use Rattle.gd_question.specs.InForce.{in_force}
-use Rattle.gd_question.specs.Rows.{AreOwn}
+use Rattle.gd_question.specs.Stored.{AreOwn}
 
 abbrev pub as_point : List ℕ × Point → Element
 as_point e = point_element e.1.kind e.1.place.0 e.1.capacity

@@ -10,10 +10,12 @@ use Rattle.gd_tree.proofs.Agreement.{route_with}
 use Rattle.gd_tree.proofs.Grown.{below_or}
 use Rattle.gd_system.specs.Pipeline.{Pipeline, elements_of}
 use Rattle.gd_system.specs.Route.{element_at}
-use Rattle.gd_question.specs.Posing.{Posed, with_limit, limit_fault, capacity_fault, changed, after_capacity}
+use Rattle.gd_question.specs.Posing.{Posed}
+use Rattle.gd_question.specs.Filling.{capacity_fault, changed, after_capacity}
+use Rattle.gd_question.specs.InForce.{with_limit, limit_fault, in_force}
 use Rattle.gd_question.specs.Known.{limit_of}
-use Rattle.gd_question.specs.InForce.{in_force}
-use Rattle.gd_question.specs.Rows.{IsRow, line_of}
+use Rattle.gd_question.specs.Rows.{line_of}
+use Rattle.gd_question.specs.Stored.{IsRow}
 use Rattle.gd_question.specs.Inside.{posed_of, IsSound}
 use Rattle.gd_question.specs.declared.fault.CapacityFault.{CapacityFault}
 use Rattle.gd_question.specs.declared.fault.CapacityFault.TheVariants.{UnknownElement, IsPool}

@@ -4,15 +4,16 @@ use Rattle.std.specs.Bool.{Decides}
 use Rattle.std.proofs.lemmas.Bool.Decides.{Decides-eqb}
 use Rattle.gd_rules.specs.Question as rules
 use Rattle.gd_rules.specs.Question.Element.{Pool}
-use Rattle.gd_rules.specs.Tree.{place_of}
+use Rattle.gd_rules.specs.Question.{place_of}
 use Rattle.gd_system.specs.Pipeline.{Pipeline, elements_of}
 use Rattle.gd_system.specs.Route.{element_at}
 use Rattle.gd_system.specs.declared.part.Ends.{Ends}
 use Rattle.gd_system.proofs.Same.{both, same_ends, ends_decided}
-use Rattle.gd_question.specs.Posing.{Posed, with_limit}
+use Rattle.gd_question.specs.Posing.{Posed}
+use Rattle.gd_question.specs.InForce.{with_limit, in_force}
 use Rattle.gd_question.specs.Known.{limit_of}
-use Rattle.gd_question.specs.InForce.{in_force}
-use Rattle.gd_question.specs.Rows.{IsRow, line_of}
+use Rattle.gd_question.specs.Rows.{line_of}
+use Rattle.gd_question.specs.Stored.{IsRow}
 use Rattle.gd_question.specs.Inside.{posed_of, IsSound}
 use Rattle.gd_question.specs.declared.question.Row.{Row}
 use Rattle.gd_question.specs.declared.question.Question.TheInside.{Inside}

@@ -3,14 +3,16 @@ use Rattle.std.proofs.Common.{◌≡◌, ℕ, ◌<◌, ◌≤◌, List, get_or, 
 use Rattle.std.proofs.lemmas.List.{length-map, get_or-map, get_or_default}
 use Rattle.gd_rules.specs.Question as rules
 use Rattle.gd_rules.specs.Question.Element.{Pool}
-use Rattle.gd_rules.specs.Tree.{IsLine, HasLines, IsRoute, place_of}
+use Rattle.gd_rules.specs.Tree.{IsLine, HasLines, IsRoute}
+use Rattle.gd_rules.specs.Question.{place_of}
 use Rattle.gd_tree.specs.Grown.{route_of}
 use Rattle.gd_tree.proofs.Directions.{routes, route_few}
 use Rattle.gd_system.specs.Pipeline.{Pipeline, elements_of}
 use Rattle.gd_system.specs.Known.{IsSystem}
 use Rattle.gd_question.specs.Known.{IsKnown}
 use Rattle.gd_question.specs.InForce.{in_force}
-use Rattle.gd_question.specs.Rows.{IsRow, line_of}
+use Rattle.gd_question.specs.Rows.{line_of}
+use Rattle.gd_question.specs.Stored.{IsRow}
 use Rattle.gd_question.specs.declared.question.Row.{Row}
 use Rattle.gd_question.proofs.InForceLemmas.{length-in_force, alike, place-alike, sends-alike, takes-alike, route-alike}
 use Rattle.gd_question.proofs.Limits.{length-elements}

@@ -5,7 +5,8 @@ use Rattle.gd_system.specs.Pipeline.{elements_of}
 use Rattle.gd_system.specs.Known.{IsSystem}
 use Rattle.gd_question.specs.Posing.{Posed}
 use Rattle.gd_question.specs.InForce.{in_force}
-use Rattle.gd_question.specs.Rows.{IsRow, line_of}
+use Rattle.gd_question.specs.Rows.{line_of}
+use Rattle.gd_question.specs.Stored.{IsRow}
 use Rattle.gd_question.specs.declared.question.Row.{Row}
 use Rattle.gd_question.specs.declared.question.Question.TheInside.{Inside}
 

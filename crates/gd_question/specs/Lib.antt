@@ -1,8 +1,10 @@
 pub mod Posing
+pub mod Filling
 pub mod Known
 pub mod Names
 pub mod InForce
 pub mod Rows
+pub mod Stored
 pub mod Inside
 pub mod Placing
 pub mod Nodes

@@ -1,7 +1,6 @@
 -- Where the elements of a question stand in its pipeline.
 use Rattle.std.specs.Prelude.{ℕ, ◌<◌, ◌≤◌, length}
-use Rattle.gd_rules.specs.Question.{Question, element}
-use Rattle.gd_rules.specs.Tree.{place_of}
+use Rattle.gd_rules.specs.Question.{Question, element, place_of}
 use Rattle.gd_rules.specs.Limits.{most_segments}
 use Rattle.gd_question.specs.Nodes.{AllBring}
 use Rattle.gd_tree.specs.Grown.{IsGrown}

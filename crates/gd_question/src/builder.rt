@@ -1,7 +1,7 @@
 //! Questions in the making.
 
 ghost use Rattle.std.specs.Prelude.{◌≡◌, Ok, Err, IfOk, IfErr, OnOk, OnErr, ◌⊎◌};
-ghost use Rattle.gd_question.specs.Posing.{after_capacity, after_line, posed};
+ghost use Rattle.gd_question.specs.Filling.{after_capacity, after_line, posed};
 
 use crate::question::Question;
 use crate::{CapacityFault, LineFault};

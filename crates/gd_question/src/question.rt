@@ -5,9 +5,11 @@ ghost use Rattle.std.specs.List.{count_by};
 ghost use Rattle.gd_rules.specs.Question.{line, element as asked_element};
 ghost use Rattle.gd_question.specs.Known.{IsKnown, limit_of};
 ghost use Rattle.gd_question.specs.Placing.{IsPlaced};
-ghost use Rattle.gd_question.specs.Posing.{with_limit, after_capacity, checked_line, with_line, capacity_fault, posed};
-ghost use Rattle.gd_question.specs.Rows.{IsRow, ends_of_row, AreOwn};
-ghost use Rattle.gd_system.specs.Pipeline.{element_of, names_of};
+ghost use Rattle.gd_question.specs.Filling.{after_capacity, checked_line, with_line, capacity_fault, posed};
+ghost use Rattle.gd_question.specs.InForce.{with_limit};
+ghost use Rattle.gd_question.specs.Stored.{IsRow, ends_of_row, AreOwn};
+ghost use Rattle.gd_system.specs.Pipeline.{names_of};
+ghost use Rattle.gd_system.specs.Parts.{element_of};
 
 use crate::{CapacityFault, LineFault, MAX_LINES};
 use gd_system::{Element, Ends, Part, System};

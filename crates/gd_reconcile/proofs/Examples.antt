@@ -6,7 +6,7 @@ use Rattle.gd_machine.specs.declared.reply.Reply.{Reply}
 use Rattle.gd_machine.specs.declared.refusal.Refusal.{Refusal}
 use Rattle.gd_machine.specs.Day.{Day}
 use Rattle.gd_machine.specs.History.{History}
-use Rattle.gd_machine.specs.Machine.{MayRefuse}
+use Rattle.gd_machine.specs.Steps.{MayRefuse}
 use Rattle.gd_office_part.specs.declared.kept.Receipt.{Receipt}
 use Rattle.gd_office_part.specs.declared.kept.Told.{Told}
 use Rattle.gd_office_part.specs.declared.kept.Told.TheVariants.{Accepted, Refused}

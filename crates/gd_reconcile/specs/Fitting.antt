@@ -5,7 +5,7 @@ use Rattle.std.specs.Global.{Vec}
 use Rattle.gd_machine.specs.declared.event.Event.{Event}
 use Rattle.gd_machine.specs.Day.{Day}
 use Rattle.gd_machine.specs.History.{History}
-use Rattle.gd_machine.specs.Machine.{Fits}
+use Rattle.gd_machine.specs.Steps.{Fits}
 use Rattle.gd_office_part.specs.declared.kept.Receipt.{Receipt}
 use Rattle.gd_office_part.specs.declared.kept.Told.{Told}
 use Rattle.gd_office_part.specs.declared.kept.Told.TheVariants.{Accepted, Refused}

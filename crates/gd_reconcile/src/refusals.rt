@@ -4,7 +4,7 @@ ghost use Rattle.std.specs.Prelude.{◌≡◌, ◌↔◌, ◌⊎◌, ◌+◌, �
 ghost use Rattle.std.specs.Option.{MatchOption};
 ghost use Rattle.std.specs.List.Sorted.{IsNonDecreasingBy};
 ghost use Rattle.gd_machine.specs.declared.refusal.Refusal.TheVariants.{OutOfMemory, BoardTaken};
-ghost use Rattle.gd_machine.specs.Machine.{IsPublish};
+ghost use Rattle.gd_machine.specs.Steps.{IsPublish};
 ghost use Rattle.gd_reconcile.specs.Fitting.{lists_of};
 ghost use Rattle.gd_reconcile.specs.Answering.{AnswerTo, IsFirstWrong, AnswersAt, IsQuery, AreQueries, LeastWrong};
 

@@ -1,7 +1,8 @@
 -- Lines and nominations at a worked example.
 use Rattle.std.proofs.Common.{◌≡◌, List, [], ◌∷◌, length, refl}
 use Rattle.std.specs.Prelude.{Some, None, codes}
-use Rattle.gd_rules.specs.Lines.{Key, Nomination, lines_of, line_key, find, nominated, committed, intake, numbered_intake, lines_until, class_of_line}
+use Rattle.gd_rules.specs.Lines.{Key, Nomination, lines_of, line_key, find, committed, intake}
+use Rattle.gd_rules.specs.Lists.{nominated, numbered_intake, lines_until, class_of_line}
 
 firm : Key
 firm = record { contract = codes "FIRM"; «package» = codes "P"; origin = codes "R1"; dest = codes "D1" }

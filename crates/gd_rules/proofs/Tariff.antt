@@ -3,7 +3,7 @@ use Rattle.std.proofs.Common.{◌≤◌, ℕ, ◌+◌, arith, Bool, true, false}
 use Rattle.std.specs.Prelude.{ℤ, pos, neg_ℤ, ◌≤ℤ◌, if◌then◌else◌, ◌==◌, nat_lt}
 use borrow.Author.Differences.{ints}
 use Rattle.gd_scale.proofs.Words.{words_lawful, both_lawful, words_at_most, then_not}
-use Rattle.gd_scale.specs.Scale.{IsLawful}
+use Rattle.gd_scale.specs.Laws.{IsLawful}
 use Rattle.gd_scale.specs.Words.{words, words_order}
 use Rattle.gd_rules.specs.Tariff.{at_class, class_unit, tariff, tariff_unit}
 use Rattle.gd_rules.specs.Units.{NeverRises}

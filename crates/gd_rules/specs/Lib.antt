@@ -11,4 +11,5 @@ pub mod Cut
 pub mod GasDay
 pub mod Bounds
 pub mod Lines
+pub mod Lists
 pub mod Classes

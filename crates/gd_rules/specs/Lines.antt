@@ -1,6 +1,6 @@
 -- The lines of a gas day, and what is nominated on them: all of it is told by the list of accepted nominations, in the order of acceptance.
 -- Names are lists of bytes. Cycles (NAESB WGQ 1.3.2) count from 1: Timely, Evening, Intraday 1, 2 and 3. Quantities are dekatherms for one gas day.
-use Rattle.std.specs.Prelude.{ℕ, ◌≤◌, Bool, ◌==◌, ◌&&◌, nat_le, List, [], ◌∷◌, ◌++◌, get_or, position, map, filter, fold, sum_by, AllPairs, Option, if◌then◌else◌}
+use Rattle.std.specs.Prelude.{ℕ, Bool, ◌==◌, ◌&&◌, nat_le, List, [], ◌∷◌, ◌++◌, get_or, position, filter, fold, sum_by, Option, if◌then◌else◌}
 use Rattle.std.specs.List.{list_any}
 use Rattle.std.specs.Cmp.Lexicographic.{pointwise}
 
@@ -58,10 +58,6 @@ until cycle ns = filter (λ n. nat_le n.cycle cycle) ns
 abbrev pub last_quantity : List Nomination → ℕ
 last_quantity ns = fold (λ former n. n.quantity) 0 ns
 
--- What is nominated on a line for a cycle: the last quantity accepted for it or for a former cycle, else 0.
-abbrev pub nominated : List Nomination → Key → ℕ → ℕ
-nominated ns key cycle = last_quantity (until cycle (of_line key ns))
-
 -- What a contract's lines have been nominated last, together (own).
 abbrev pub committed : List Nomination → List ℕ → ℕ
 committed ns contract = sum_by (λ key. last_quantity (of_line key ns)) (filter (λ key. same_name key.contract contract) (lines_of ns))
@@ -70,24 +66,4 @@ committed ns contract = sum_by (λ key. last_quantity (of_line key ns)) (filter 
 abbrev pub intake : List Nomination → ℕ → List Nomination
 intake ns cycle = filter (λ n. n.cycle == cycle) ns
 
--- The same by number: each nomination's line and quantity.
-abbrev pub numbered_intake : List Nomination → ℕ → List (Option ℕ × ℕ)
-numbered_intake ns cycle = map (λ n. (find ns n.key, n.quantity)) (intake ns cycle)
-
--- The lines that are nominated for this cycle or for a former one.
-abbrev pub lines_until : List Nomination → ℕ → List Key
-lines_until ns cycle = lines_of (until cycle ns)
-
--- A line's class is that of its first nomination. Since it goes by contract and ends, all of them have it.
-abbrev pub first_class : List Nomination → ℕ
-first_class [] = 0
-first_class (n ∷ ns) = n.class
-
-abbrev pub class_of_line : List Nomination → Key → ℕ
-class_of_line ns key = first_class (of_line key ns)
-
 -- ---- time
-
--- Nominations are accepted as time goes on: their cycles never fall.
-abbrev pub IsRising : List Nomination → Type 0
-IsRising ns = AllPairs (λ former later. former.cycle ≤ later.cycle) ns

@@ -44,3 +44,9 @@ crossing_of l e (Pool place) = if l.dest == e then pos 1 else if l.origin == e t
 
 abbrev pub crossing : Question → ℕ → ℕ → ℤ
 crossing q i e = crossing_of (line q i) e (element q e)
+
+abbrev pub place_of : Element → ℕ
+place_of (Segment from to capacity) = from
+place_of (Receipt place capacity) = place
+place_of (Delivery place capacity) = place
+place_of (Pool place) = place

@@ -2,7 +2,7 @@
 -- Each point and each pool hangs on one place.
 use Rattle.std.specs.Prelude.{◌≡◌, ◌≢◌, ℕ, ◌<◌, ◌≤◌, List, [], ◌∷◌, length, get_or, nat_eq, ◌⊎◌, map}
 use Rattle.std.specs.List.{IsDistinct}
-use Rattle.gd_rules.specs.Question.{Element, Line, Question, element, line}
+use Rattle.gd_rules.specs.Question.{Element, Line, Question, element, line, place_of}
 use Rattle.gd_rules.specs.Question.Element.{Segment, Receipt, Delivery, Pool}
 use Rattle.gd_rules.specs.Limits.{classes}
 
@@ -34,12 +34,6 @@ Follows elements a (s ∷ steps) b = LeadsTo (get_or elements s.0 (Pool 0)) a s.
 -- The segments lead from a to b, each along its direction, and no place comes twice.
 abbrev pub IsRoute : List Element → ℕ → List ℕ → ℕ → Type 0
 IsRoute elements a route b = (steps : List (ℕ × ℕ)) × (route ≡ map (λ s. s.0) steps) × Follows elements a steps b × IsDistinct nat_eq (a ∷ map (λ s. s.1) steps)
-
-abbrev pub place_of : Element → ℕ
-place_of (Segment from to capacity) = from
-place_of (Receipt place capacity) = place
-place_of (Delivery place capacity) = place
-place_of (Pool place) = place
 
 -- The line's route is that from the place of its origin to the place of its destination.
 abbrev pub HasItsRoute : Question → Line → Type 0

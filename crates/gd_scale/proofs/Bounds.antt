@@ -10,8 +10,10 @@ use Rattle.std.proofs.lemmas.Bool.{cases_lt}
 use lib.IntN.{zero-*ℤ, suc_ℤ-*ℤ, *ℤ_comm, *ℤ-negsuc}
 use Rattle.std.proofs.lemmas.Int.{unsigned_abs-mul}
 use Rattle.std.proofs.Math.Nat.{mul_comm, mul-le-mul_right, suc-mul}
-use Rattle.gd_scale.specs.Scale.{Scale, IsBounded, IsRanked, multiple, repeated}
-use Rattle.gd_scale.specs.Words.{whole, word_rank, word_size, words, words_order, both, word_fits, words_fit, words_rank, words_size, both_fit, both_rank, both_size}
+use Rattle.gd_scale.specs.Scale.{Scale, multiple, repeated}
+use Rattle.gd_scale.specs.Laws.{IsBounded, IsRanked}
+use Rattle.gd_scale.specs.Words.{words, words_order, both, word_fits, words_fit}
+use Rattle.gd_scale.specs.Sizes.{whole, word_rank, word_size, words_rank, words_size, both_fit, both_rank, both_size}
 
 word_fits_is : (b x : ℤ) → word_fits b x ≡ true → (x ≤ℤ b) × (neg_ℤ x ≤ℤ b)
 word_fits_is b x h = (grind (arith, ints), grind (arith, ints))

@@ -4,7 +4,8 @@ use Rattle.std.specs.Prelude.{ℤ, pos, negsuc}
 use Rattle.std.specs.declared.cmp.Ordering.TheVariants.{Less, Equal, Greater}
 use Rattle.gd_scale.specs.Sum.{sum_nat}
 use Rattle.gd_scale.specs.Scale.{multiple}
-use Rattle.gd_scale.specs.Words.{whole, words, words_order, words_fit, word_rank, both}
+use Rattle.gd_scale.specs.Words.{words, words_order, words_fit, both}
+use Rattle.gd_scale.specs.Sizes.{whole, word_rank}
 
 -- 0 + 1 + 2 + 3
 sum : sum_nat 4 (λ k. k) ≡ 6

@@ -4,7 +4,8 @@ use Rattle.std.specs.declared.cmp.Ordering.{Ordering}
 use Rattle.std.specs.declared.cmp.Ordering.TheVariants.{Less, Equal, Greater}
 use Rattle.std.specs.Ordering.{is_gt, ordering_reverse}
 use Rattle.std.specs.Cmp.{upto, tied_itself}
-use Rattle.gd_scale.specs.Scale.{Scale, IsLawful, repeated, AtMost}
+use Rattle.gd_scale.specs.Scale.{Scale, repeated, AtMost}
+use Rattle.gd_scale.specs.Laws.{IsLawful}
 
 -- an answer that is not Greater tests so
 pub not_greater : (r : Ordering) → r ≢ Greater → is_gt r ≡ false

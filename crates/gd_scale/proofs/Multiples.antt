@@ -4,7 +4,8 @@ use Rattle.std.specs.Prelude.{ℤ, pos, negsuc, ◌+ℤ◌, ◌*ℤ◌, ◌≤�
 use borrow.Author.Differences.{up, down, ints}
 use lib.IntN.{suc_ℤ-*ℤ, *ℤ_comm, *ℤ-zero}
 use Rattle.gd_scale.specs.Sum.{sum_int}
-use Rattle.gd_scale.specs.Scale.{Scale, IsLawful, repeated, multiple, total_below, AtMost}
+use Rattle.gd_scale.specs.Scale.{Scale, repeated, multiple, total_below, AtMost}
+use Rattle.gd_scale.specs.Laws.{IsLawful}
 use Rattle.gd_scale.proofs.Group.{regroup, injective, at_most_itself, at_most_plus, repeated_add, repeated_up, repeated_down}
 
 module _ {V : Type 0} (s : Scale V) (l : IsLawful s) where

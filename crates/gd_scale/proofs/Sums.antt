@@ -1,6 +1,7 @@
 -- Sums over a scale.
 use Rattle.std.proofs.Common.{◌≡◌, ℕ, suc, zero, ◌<◌, refl, sym, ap, ◌∙◌, arith}
-use Rattle.gd_scale.specs.Scale.{Scale, IsLawful, repeated, total_below, AtMost}
+use Rattle.gd_scale.specs.Scale.{Scale, repeated, total_below, AtMost}
+use Rattle.gd_scale.specs.Laws.{IsLawful}
 use Rattle.gd_scale.proofs.Group.{regroup, at_most_itself, at_most_plus, repeated_none, repeated_plus}
 
 module _ {V : Type 0} (s : Scale V) (l : IsLawful s) where

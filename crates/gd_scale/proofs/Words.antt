@@ -8,8 +8,10 @@ use Rattle.std.specs.Ordering.{int_cmp, ordering_then, MatchOrdering}
 use Rattle.std.specs.Cmp.{IsTotalOrder, int_cmp_total, then_total, on_total, int_cmp_is, int_ranks, tied_itself}
 use borrow.Author.Differences.{ints}
 use lib.IntN.{+ℤ_comm, +ℤ_assoc, +ℤ_idr, +ℤ_invr}
-use Rattle.gd_scale.specs.Scale.{Scale, IsLawful}
-use Rattle.gd_scale.specs.Words.{whole, words, words_order, both}
+use Rattle.gd_scale.specs.Scale.{Scale}
+use Rattle.gd_scale.specs.Laws.{IsLawful}
+use Rattle.gd_scale.specs.Words.{words, words_order, both}
+use Rattle.gd_scale.specs.Sizes.{whole}
 
 -- order of whole numbers
 pub ranked_plus : (x y z : ℤ) (r : Ordering) → MatchOrdering r (x <ℤ y) (x ≡ y) (y <ℤ x) → MatchOrdering r ((x +ℤ z) <ℤ (y +ℤ z)) ((x +ℤ z) ≡ (y +ℤ z)) ((y +ℤ z) <ℤ (x +ℤ z))

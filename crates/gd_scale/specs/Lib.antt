@@ -1,3 +1,5 @@
 pub mod Sum
 pub mod Scale
+pub mod Laws
 pub mod Words
+pub mod Sizes

@@ -3,8 +3,9 @@
 #![tactic(auto)]
 
 ghost use Rattle.std.specs.Prelude.{ℕ};
-ghost use Rattle.gd_scale.specs.Scale.{IsLawful};
-ghost use Rattle.gd_scale.specs.Words.{both, whole, words};
+ghost use Rattle.gd_scale.specs.Laws.{IsLawful};
+ghost use Rattle.gd_scale.specs.Words.{both, words};
+ghost use Rattle.gd_scale.specs.Sizes.{whole};
 
 /// Whole numbers are a commutative group with a total order that adding keeps.
 pub fn whole_numbers_are_lawful()

@@ -5,8 +5,9 @@ use Rattle.std.proofs.lemmas.Bool.{cases_eq}
 use borrow.Author.Differences.{ints}
 use borrow.Author.Tests.{eqb-true, eqb-false}
 use Rattle.gd_scale.specs.Sum.{sum_int}
-use Rattle.gd_scale.specs.Scale.{repeated, multiple, less}
-use Rattle.gd_scale.specs.Words.{whole}
+use Rattle.gd_scale.specs.Scale.{repeated, multiple}
+use Rattle.gd_scale.specs.Laws.{less}
+use Rattle.gd_scale.specs.Sizes.{whole}
 use Rattle.gd_scale.proofs.Words.{whole_lawful}
 use Rattle.gd_rules.specs.Question.{Element, Question, element, line, crossing}
 use Rattle.gd_rules.specs.Question.Element.{Segment, Receipt, Delivery, Pool}

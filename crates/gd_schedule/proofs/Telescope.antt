@@ -1,9 +1,10 @@
 -- Along a line's route what the potentials rise by telescopes.
 use Rattle.std.proofs.Common.{◌≡◌, ℕ, List, [], ◌∷◌, get_or, length, map, refl, sym, ap, ◌∙◌}
-use Rattle.gd_scale.specs.Scale.{Scale, IsLawful, multiple, total_below, less}
-use Rattle.gd_rules.specs.Question.{Element, Line, Question, element, line, crossing}
+use Rattle.gd_scale.specs.Scale.{Scale, multiple, total_below}
+use Rattle.gd_scale.specs.Laws.{IsLawful, less}
+use Rattle.gd_rules.specs.Question.{Element, Line, Question, element, line, crossing, place_of}
 use Rattle.gd_rules.specs.Question.Element.{Segment, Receipt, Delivery, Pool}
-use Rattle.gd_rules.specs.Tree.{IsLine, CanSend, CanTake, LeadsTo, Follows, place_of}
+use Rattle.gd_rules.specs.Tree.{IsLine, CanSend, CanTake, LeadsTo, Follows}
 use Rattle.gd_scale.proofs.Group.{injective}
 use Rattle.gd_rules.proofs.LinePayments.{crossed_is, route_total, origin_pays}
 use Rattle.gd_question.specs.Nodes.{start_of, stop_of, start, stop, end_node}

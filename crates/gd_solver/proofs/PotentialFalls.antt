@@ -4,7 +4,8 @@ use Rattle.std.proofs.lemmas.Bool.{cases_lt}
 use Rattle.std.proofs.lemmas.List.{get_or_append_left, get_or_at, get_or-map, length-map, length-append}
 use Rattle.std.specs.Prelude.{ℤ, pos}
 use borrow.Author.Differences.{ints}
-use Rattle.gd_scale.specs.Scale.{Scale, IsBounded}
+use Rattle.gd_scale.specs.Scale.{Scale}
+use Rattle.gd_scale.specs.Laws.{IsBounded}
 
 module _ {V : Type 0} (s : Scale V) (within : ℤ → V → Bool) (b : IsBounded s within) where
   -- a potential is small enough to be subtracted

@@ -5,7 +5,8 @@ use Rattle.std.proofs.lemmas.Bool.{ltb-true, ltb-false, lt-ltb}
 use Rattle.gd_rules.specs.Question.{Question, line}
 use Rattle.gd_rules.specs.Priced.{IsPriced, price}
 use Rattle.gd_rules.specs.Tariff.{IsPricedByTariff, tariff, tariff_unit}
-use Rattle.gd_scale.specs.Words.{words_fit, both_fit}
+use Rattle.gd_scale.specs.Words.{words_fit}
+use Rattle.gd_scale.specs.Sizes.{both_fit}
 use Rattle.gd_network.specs.Arcs.{tenth_arc}
 use Rattle.gd_network.specs.Potential.{IsGains}
 

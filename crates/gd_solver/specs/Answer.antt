@@ -5,7 +5,7 @@ use Rattle.gd_rules.specs.Spread.{IsBest}
 use Rattle.gd_rules.specs.Tariff.{IsPricedByTariff}
 use Rattle.gd_question.specs.Posing.{Posed}
 use Rattle.gd_cost.specs.Parts.{class_words}
-use Rattle.gd_certificate.specs.Cutting.{IsShaped, Cuts}
+use Rattle.gd_certificate.specs.Explained.{IsShaped, Cuts}
 use Rattle.gd_solver.specs.declared.answer.Answer.{Answer}
 use Rattle.gd_solver.specs.declared.answer.Answer.TheVariants.{Best, Impossible}
 

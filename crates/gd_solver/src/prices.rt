@@ -5,7 +5,7 @@ ghost use Rattle.gd_rules.specs.Limits.{most_price_word};
 ghost use Rattle.gd_rules.specs.Priced.{price};
 ghost use Rattle.gd_question.specs.Nodes.{start, stop};
 ghost use Rattle.gd_network.specs.Potential.{ArePrices};
-ghost use Rattle.gd_scale.specs.Scale.{less};
+ghost use Rattle.gd_scale.specs.Laws.{less};
 ghost use Rattle.gd_mincost.specs.Settling.{potential, most_potential};
 
 use gd_cost::Cost;

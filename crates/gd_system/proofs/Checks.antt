@@ -3,7 +3,8 @@ use Rattle.std.proofs.Common.{◌≡◌, ℕ, ◌<◌, ◌≤◌, Bool, false, L
 use Rattle.std.proofs.lemmas.Bool.Decides.{nat_tests}
 use Rattle.std.proofs.lemmas.Bool.{le-leb}
 use Rattle.std.specs.Prelude.{if◌then◌else◌, nat_le}
-use Rattle.gd_system.specs.Pipeline.{Pipeline, checked_segment, joined_within, joined, known, names_of, number_of, same_name}
+use Rattle.gd_system.specs.Pipeline.{Pipeline, names_of, number_of, same_name}
+use Rattle.gd_system.specs.Building.{checked_segment, joined_within, joined, known}
 use Rattle.gd_system.specs.Join.{join_of}
 use Rattle.gd_system.specs.declared.BuildFault.TheVariants.{Duplicate, TooMany}
 

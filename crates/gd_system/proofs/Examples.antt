@@ -3,7 +3,8 @@ use Rattle.std.proofs.Common.{◌≡◌, ℕ, List, [], ◌∷◌, Some, None, O
 use Rattle.gd_rules.specs.Question.Element.{Segment as segment, Receipt as receipt, Delivery as delivery, Pool as pool}
 use Rattle.gd_tree.specs.Walk.{walk}
 use Rattle.gd_tree.specs.Grown.{route_of}
-use Rattle.gd_system.specs.Pipeline.{Pipeline, empty, elements_of, names_of, operators_of, element_number, number_of, after_segment, after_point, after_pool}
+use Rattle.gd_system.specs.Pipeline.{Pipeline, elements_of, names_of, operators_of, element_number, number_of}
+use Rattle.gd_system.specs.Building.{empty, after_segment, after_point, after_pool}
 use Rattle.gd_system.specs.Route.{ends_of}
 use Rattle.gd_system.specs.declared.BuildFault.TheVariants.{Duplicate, Unjoined, UnknownPlace}
 use Rattle.gd_system.specs.declared.RouteFault.TheVariants.{UnknownEnd, WrongEnd, SameEnd, NoRoute}

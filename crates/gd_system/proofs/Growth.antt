@@ -11,10 +11,11 @@ use Rattle.std.specs.Prelude.{if◌then◌else◌, ◌||◌, is_some, ◌==◌, 
 use Rattle.std.specs.Result.{is_err}
 use Rattle.indexmap.proofs.MapLemmas.{some_index}
 use Rattle.gd_rules.specs.Question.{Element}
-use Rattle.gd_system.specs.Pipeline.{Pipeline, joined, joined_within, checked_segment, known, names_of, number_of, same_name, entered}
+use Rattle.gd_system.specs.Pipeline.{Pipeline, names_of, number_of, same_name}
+use Rattle.gd_system.specs.Building.{joined, joined_within, checked_segment, known, entered}
 use Rattle.gd_system.specs.Join.{later}
 use Rattle.gd_system.proofs.Names.{new_parts}
-use Rattle.gd_system.specs.Known.{IsBuilt}
+use Rattle.gd_system.specs.Growing.{IsBuilt}
 use Rattle.gd_system.specs.declared.BuildFault.TheVariants.{Duplicate}
 use Rattle.gd_system.specs.declared.part.Point.{Point}
 use Rattle.gd_system.specs.declared.part.Pool.{Pool}

@@ -4,14 +4,15 @@ use Rattle.std.specs.Prelude.{if◌then◌else◌, ◌==◌, ◌⊎◌, All}
 use Rattle.std.proofs.lemmas.Bool.{eqb-true}
 use Rattle.std.proofs.lemmas.List.{get_or_past}
 use Rattle.std.proofs.lemmas.List.Elements.{All-append, All-map, All-from_get_or}
-use Rattle.gd_rules.specs.Question.{Element}
+use Rattle.gd_rules.specs.Question.{Element, place_of}
 use Rattle.gd_rules.specs.Question.Element.{Segment, Receipt, Delivery, Pool}
-use Rattle.gd_rules.specs.Tree.{place_of, IsTree}
+use Rattle.gd_rules.specs.Tree.{IsTree}
 use Rattle.gd_tree.specs.Grown.{IsGrown, IsNoSegment, Joins}
 use Rattle.gd_tree.proofs.Grown.{below_or, tree}
 use Rattle.gd_tree.proofs.Agreement.{grown_with}
 use Rattle.gd_system.specs.Pipeline.{Pipeline, elements_of, point_element}
-use Rattle.gd_system.specs.Known.{IsBuilt, IsSystem}
+use Rattle.gd_system.specs.Known.{IsSystem}
+use Rattle.gd_system.specs.Growing.{IsBuilt}
 use Rattle.gd_units.specs.declared.service.Kind.{Kind}
 use Rattle.gd_units.specs.declared.service.Kind.TheVariants as kind
 

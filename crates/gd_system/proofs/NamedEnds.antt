@@ -3,15 +3,17 @@ use Rattle.std.proofs.Common.{◌≡◌, ◌≢◌, ℕ, ◌<◌, Bool, true, fa
 use Rattle.std.specs.Prelude.{if◌then◌else◌, ◌==◌, ◌||◌, IfOk}
 use Rattle.std.proofs.lemmas.Bool.{eqb-false, ne_eqb}
 use Rattle.std.proofs.lemmas.List.Quantifiers.{position-Some}
-use Rattle.gd_rules.specs.Question.{Element}
+use Rattle.gd_rules.specs.Question.{Element, place_of}
 use Rattle.gd_rules.specs.Question.Element.{Segment, Receipt, Delivery, Pool}
-use Rattle.gd_rules.specs.Tree.{place_of, CanSend, CanTake, IsRoute}
+use Rattle.gd_rules.specs.Tree.{CanSend, CanTake, IsRoute}
 use Rattle.gd_tree.specs.Grown.{IsGrown, IsNoSegment, Joins, has_route, route_of}
 use Rattle.gd_tree.proofs.Agreement.{route_with}
 use Rattle.std.proofs.lemmas.List.{get_or_append_left, get_or_past}
 use Rattle.gd_tree.proofs.Directions.{has_route_with, routes}
-use Rattle.gd_system.specs.Pipeline.{Pipeline, elements_of, names_of, same_name, element_number, element_of}
-use Rattle.gd_system.specs.Route.{element_at, is_segment, is_receipt, is_delivery, ends_at, ends_between, ends_found, ends_of, AreEnds, AreParted, IsTheRoute}
+use Rattle.gd_system.specs.Pipeline.{Pipeline, elements_of, names_of, same_name, element_number}
+use Rattle.gd_system.specs.Parts.{element_of}
+use Rattle.gd_system.specs.Route.{element_at, is_segment, is_receipt, is_delivery, ends_at, ends_between, ends_found, ends_of}
+use Rattle.gd_system.specs.Ends.{AreEnds, AreParted, IsTheRoute}
 use Rattle.gd_system.specs.Known.{IsSystem}
 use Rattle.gd_system.specs.declared.part.Element.{Element as Number}
 use Rattle.gd_system.specs.declared.part.PlaceId.{PlaceId}

@@ -4,7 +4,8 @@ use Rattle.std.specs.Prelude.{◌||◌, is_some}
 use Rattle.std.specs.Map.{keys_of, lookup}
 use Rattle.std.proofs.lemmas.Map.Made.{is_some-lookup}
 use Rattle.std.proofs.lemmas.List.Folds.{list_any-append}
-use Rattle.gd_system.specs.Pipeline.{Pipeline, known, names_of, same_name}
+use Rattle.gd_system.specs.Pipeline.{Pipeline, names_of, same_name}
+use Rattle.gd_system.specs.Building.{known}
 
 or_true : (b : Bool) → (b || true) ≡ true
 or_true true = refl

@@ -1,6 +1,6 @@
 -- What the fields of a builder stand for.
 use Rattle.gd_system.specs.Pipeline.{Pipeline}
-use Rattle.gd_system.specs.Known.{IsBuilt}
+use Rattle.gd_system.specs.Growing.{IsBuilt}
 use Rattle.gd_system.specs.declared.builder.SystemBuilder.TheInside.{Inside}
 
 abbrev pub pipeline_of : Inside → Pipeline

@@ -1,7 +1,11 @@
 pub mod Join
 pub mod Pipeline
+pub mod Parts
+pub mod Building
 pub mod Route
+pub mod Ends
 pub mod Known
+pub mod Growing
 pub mod Names
 pub mod BuilderInside
 pub mod SystemInside

@@ -4,7 +4,8 @@ ghost use Rattle.std.specs.Prelude.{◌≡◌, ℕ, ◌+◌, ◌<◌, ◌≤◌,
 ghost use Rattle.gd_rules.specs.Question.Element.{Segment as segment};
 ghost use Rattle.gd_tree.specs.Grown.{Joins};
 ghost use Rattle.gd_system.specs.Join.{join_of};
-ghost use Rattle.gd_system.specs.Pipeline.{empty, known, names_of, same_name, entered, checked_segment, checked_point, checked_pool, after_segment, after_point, after_pool};
+ghost use Rattle.gd_system.specs.Pipeline.{names_of, same_name};
+ghost use Rattle.gd_system.specs.Building.{empty, known, entered, checked_segment, checked_point, checked_pool, after_segment, after_point, after_pool};
 ghost use Rattle.indexmap.specs.IndexSet.{spare};
 ghost use Rattle.indexmap.specs.IndexMap.{spare as map_spare, get};
 

@@ -1,8 +1,9 @@
 //! What a pipeline is made of: places, segments, points and pools.
 
 ghost use Rattle.std.specs.Prelude.{◌≡◌};
-ghost use Rattle.gd_rules.specs.Tree.{place_of};
-ghost use Rattle.gd_system.specs.Pipeline.{element_of, capacity_of};
+ghost use Rattle.gd_rules.specs.Question.{place_of};
+ghost use Rattle.gd_system.specs.Pipeline.{capacity_of};
+ghost use Rattle.gd_system.specs.Parts.{element_of};
 ghost use Rattle.gd_system.specs.Route as spec;
 
 use gd_units::{Dth, Kind, Name};

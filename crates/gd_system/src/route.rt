@@ -3,7 +3,8 @@
 ghost use Rattle.std.specs.Prelude.{◌≡◌, ◌<◌, ℕ, List, length, IfOk, IfErr, Ok, Err, ◌⊎◌};
 ghost use Rattle.gd_tree.specs.Grown.{route_of};
 ghost use Rattle.gd_system.specs.Pipeline.{Pipeline, elements_of};
-ghost use Rattle.gd_system.specs.Route.{ends_between, ends_of, AreEnds, AreParted, IsTheRoute};
+ghost use Rattle.gd_system.specs.Route.{ends_between, ends_of};
+ghost use Rattle.gd_system.specs.Ends.{AreEnds, AreParted, IsTheRoute};
 ghost use Rattle.gd_system.specs.Known.{IsSystem};
 ghost use Rattle.gd_system.specs.declared.RouteFault.{RouteFault};
 ghost use Rattle.gd_system.specs.declared.part.Ends.{Ends};

@@ -3,7 +3,8 @@
 ghost use Rattle.std.specs.Prelude.{◌≡◌, ◌↔◌, IsTrue, ◌<◌, length, Some, None, IfSome, IfOk, slice_get};
 ghost use Rattle.std.specs.Option.{option_map};
 ghost use Rattle.gd_rules.specs.Tree.{IsTree};
-ghost use Rattle.gd_system.specs.Pipeline.{elements_of, names_of, element_of, operator_at, number_of, element_number};
+ghost use Rattle.gd_system.specs.Pipeline.{elements_of, names_of, operator_at, number_of, element_number};
+ghost use Rattle.gd_system.specs.Parts.{element_of};
 ghost use Rattle.gd_system.specs.Route.{element_at};
 ghost use Rattle.gd_system.specs.Known.{IsSystem};
 ghost use Rattle.gd_system.specs.Row.{IsRow};

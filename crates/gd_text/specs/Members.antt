@@ -1,8 +1,8 @@
 -- The set that the `inside` rows of a text name.
-use Rattle.std.specs.Prelude.{ℕ, ◌+◌, ◌-◌, ◌&&◌, nat_le, nat_lt, true, false, if◌then◌else◌}
-use Rattle.std.specs.Prelude.{List, length, set, replicate, Option, Some, None, Result, Ok, Err}
+use Rattle.std.specs.Prelude.{ℕ, ◌+◌, ◌-◌, ◌&&◌, nat_le, nat_lt, true, false, if◌then◌else◌, List, length, set, replicate, Option, Some, None, Result, Ok, Err}
 use Rattle.gd_system.specs.Pipeline.{Pipeline, number_of, element_number}
-use Rattle.gd_certificate.specs.Cutting.{Members, IsShaped}
+use Rattle.gd_certificate.specs.Cutting.{Members}
+use Rattle.gd_certificate.specs.Explained.{IsShaped}
 use Rattle.gd_text_part.specs.declared.fault.Cause.TheVariants as cause
 use Rattle.gd_text_part.specs.declared.fault.TextFault.{TextFault}
 use Rattle.gd_text_part.specs.declared.fault.TextFault.TheVariants as fault

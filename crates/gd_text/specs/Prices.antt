@@ -1,8 +1,7 @@
 -- The prices that the `price` rows of a text give.
-use Rattle.std.specs.Prelude.{◌≡◌, ℕ, ◌+◌, ◌-◌, ◌*◌, ℤ, pos, Bool, true, false, if◌then◌else◌}
-use Rattle.std.specs.Prelude.{List, [], ◌∷◌, length, set, replicate, slice_get, get_or, Option, Some, None, Result, Ok, Err}
+use Rattle.std.specs.Prelude.{◌≡◌, ℕ, ◌+◌, ◌-◌, ◌*◌, ℤ, pos, Bool, true, false, if◌then◌else◌, List, [], ◌∷◌, length, set, replicate, slice_get, get_or, Option, Some, None, Result, Ok, Err}
 use Rattle.gd_rules.specs.Limits.{classes}
-use Rattle.gd_cost.specs.Parts.{list_of, first_of, second_of}
+use Rattle.gd_cost.specs.Made.{list_of, first_of, second_of}
 use Rattle.gd_cost.specs.declared.lex.Lex.{Lex}
 use Rattle.gd_cost.specs.declared.pair.Pair.{Pair}
 use Rattle.gd_system.specs.Pipeline.{Pipeline, elements_of, element_number}

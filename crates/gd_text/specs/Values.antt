@@ -8,11 +8,13 @@ use Rattle.gd_text_part.specs.declared.row.Row.{Row}
 use Rattle.gd_text_part.specs.declared.row.Row.TheVariants as row
 use Rattle.gd_text_part.specs.declared.row.PipelineRow.TheVariants as pipeline
 use Rattle.gd_text_part.specs.declared.row.QuestionRow.TheVariants as question
-use Rattle.gd_system.specs.Pipeline.{Pipeline, empty, after_segment, after_point, after_pool, element_number}
+use Rattle.gd_system.specs.Pipeline.{Pipeline, element_number}
+use Rattle.gd_system.specs.Building.{empty, after_segment, after_point, after_pool}
 use Rattle.gd_system.specs.declared.BuildFault.{BuildFault}
 use Rattle.gd_system.specs.declared.BuildFault.TheVariants as build
 use Rattle.gd_system.specs.declared.RouteFault.TheVariants as route
-use Rattle.gd_question.specs.Posing.{Posed, posed, after_capacity, after_line}
+use Rattle.gd_question.specs.Posing.{Posed}
+use Rattle.gd_question.specs.Filling.{posed, after_capacity, after_line}
 use Rattle.gd_question.specs.declared.fault.CapacityFault.{CapacityFault}
 use Rattle.gd_question.specs.declared.fault.LineFault.{LineFault}
 use Rattle.gd_question.specs.declared.fault.LineFault.TheVariants as line

@@ -1,10 +1,9 @@
 //! The prices that a text offers.
 
-ghost use Rattle.std.specs.Prelude.{◌≡◌, ◌≤◌, ◌<◌, ◌+◌, ◌*◌, pos, get_or, length, IfOk};
-ghost use Rattle.std.specs.Prelude.{FitsSigned};
+ghost use Rattle.std.specs.Prelude.{◌≡◌, ◌≤◌, ◌<◌, ◌+◌, ◌*◌, pos, get_or, length, IfOk, FitsSigned};
 ghost use Rattle.std.specs.Int.{w128};
 ghost use Rattle.gd_rules.specs.Limits.{classes, most_elements};
-ghost use Rattle.gd_cost.specs.Parts.{list_of};
+ghost use Rattle.gd_cost.specs.Made.{list_of};
 ghost use Rattle.gd_system.specs.Pipeline.{elements_of};
 ghost use Rattle.gd_text.specs.Building.{Becomes, Builds};
 ghost use Rattle.gd_text.specs.Prices as spec;

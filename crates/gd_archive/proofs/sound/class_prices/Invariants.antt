@@ -1,5 +1,5 @@
 use Rattle.std.proofs.Common.{◌≡◌, ◌++◌, drop, map}
-use Rattle.gd_cost.specs.Parts.{first_of}
+use Rattle.gd_cost.specs.Made.{first_of}
 use Rattle.gd_archive.proofs.sound.class_prices.Given as goal
 
 -- The prices so far, and those that are left.

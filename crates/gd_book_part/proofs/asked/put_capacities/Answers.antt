@@ -1,5 +1,6 @@
 use Rattle.std.proofs.Common.{sym, ap, ◌∙◌}
-use Rattle.gd_question.specs.Posing.{Posed, after_capacity}
+use Rattle.gd_question.specs.Posing.{Posed}
+use Rattle.gd_question.specs.Filling.{after_capacity}
 use Rattle.gd_book_part.proofs.Asking.{no_capacity, capacity_more}
 use Rattle.gd_book_part.proofs.asked.put_capacities.Goals as goal
 

@@ -1,7 +1,8 @@
 use Rattle.std.proofs.Common.{◌≡◌, ℕ, ◌+◌, ◌*◌, ◌^◌, ◌<◌, ◌++◌, ◌∷◌, [], List, length, map, get_or, IsTrue, true, arith, subst, sym, ap, ◌∙◌, below_more}
 use Rattle.std.specs.Prelude.{pos}
 use Rattle.std.proofs.lemmas.List.{length-map}
-use Rattle.gd_scale.specs.Scale.{Scale, IsLawful, IsBounded}
+use Rattle.gd_scale.specs.Scale.{Scale}
+use Rattle.gd_scale.specs.Laws.{IsLawful, IsBounded}
 use Rattle.gd_rules.specs.Question.Element.{Pool, Segment}
 use Rattle.gd_tree.specs.Grown.{Joins}
 use Rattle.gd_system.specs.Pipeline.{Pipeline}

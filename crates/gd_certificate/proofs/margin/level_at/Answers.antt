@@ -1,7 +1,6 @@
 use Rattle.std.proofs.Common.{◌≡◌, ◌<◌, ◌^◌, length, map, IsTrue, subst, sym, ap, ◌∙◌, arith}
 use Rattle.std.specs.Prelude.{pos}
-use Rattle.gd_rules.specs.Question.{element}
-use Rattle.gd_rules.specs.Tree.{place_of}
+use Rattle.gd_rules.specs.Question.{element, place_of}
 use Rattle.gd_certificate.proofs.Rise.{read}
 use Rattle.gd_certificate.proofs.margin.level_at.Goals as goal
 

@@ -1,7 +1,7 @@
 use Rattle.std.proofs.Common.{◌≡◌, ℕ, ◌+◌, ◌^◌, ◌<◌, length, map, IsTrue, sym, ap, ◌∙◌, subst}
 use Rattle.std.specs.Prelude.{pos}
-use Rattle.gd_rules.specs.Question.{line, element}
-use Rattle.gd_rules.specs.Tree.{CanSend, place_of}
+use Rattle.gd_rules.specs.Question.{line, element, place_of}
+use Rattle.gd_rules.specs.Tree.{CanSend}
 use Rattle.gd_rules.specs.Priced.{price}
 use Rattle.gd_certificate.specs.Payments.{origin_price}
 use Rattle.gd_certificate.specs.Levels.{level}

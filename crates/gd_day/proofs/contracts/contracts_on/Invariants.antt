@@ -1,6 +1,6 @@
 use Rattle.std.proofs.Common.{◌≡◌, ◌+◌, drop}
 use Rattle.gd_text.specs.Building.{built_from}
-use Rattle.gd_contracts.specs.Holdings.{none_on}
+use Rattle.gd_contracts.specs.Adding.{none_on}
 use Rattle.gd_day.specs.ContractRows.{contract_step}
 use Rattle.gd_day.proofs.contracts.contracts_on.Given as goal
 

@@ -1,6 +1,7 @@
 use Rattle.std.proofs.Common.{◌≡◌, ℕ, ◌<◌, List, Bool, length, map, cond, get_or, sym, ap, ◌∙◌, subst, IsTrue}
 use Rattle.std.specs.Prelude.{ℤ, pos, true}
-use Rattle.gd_scale.specs.Scale.{Scale, IsLawful}
+use Rattle.gd_scale.specs.Scale.{Scale}
+use Rattle.gd_scale.specs.Laws.{IsLawful}
 use Rattle.gd_scale.proofs.Group.{neutral_left}
 use Rattle.gd_network.specs.declared.walks.Step.{Step}
 use Rattle.gd_mincost.specs.Gains.{AreGains, gain_at, gained}

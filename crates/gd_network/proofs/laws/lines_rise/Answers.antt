@@ -1,4 +1,4 @@
-use Rattle.gd_scale.specs.Words.{whole}
+use Rattle.gd_scale.specs.Sizes.{whole}
 use Rattle.gd_rules.specs.Tariff.{tariff}
 use Rattle.gd_scale.proofs.Words.{whole_lawful}
 use Rattle.gd_rules.proofs.Tariff.{tariff_lawful}

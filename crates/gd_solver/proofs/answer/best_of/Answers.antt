@@ -4,7 +4,8 @@ use Rattle.std.proofs.lemmas.List.{length-map}
 use Rattle.gd_rules.specs.Schedule.{IsAllowed}
 use Rattle.gd_rules.specs.Spread.{IsBest}
 use Rattle.gd_rules.specs.Tariff.{IsPricedByTariff, tariff, tariff_unit}
-use Rattle.gd_scale.specs.Words.{words_fit, both_fit}
+use Rattle.gd_scale.specs.Words.{words_fit}
+use Rattle.gd_scale.specs.Sizes.{both_fit}
 use Rattle.gd_rules.proofs.ByClass.{pair_unit_is}
 use Rattle.gd_cost.specs.Parts.{class_words}
 use Rattle.gd_cost.specs.declared.lex.Lex.{Lex}

@@ -1,6 +1,7 @@
 use Rattle.std.proofs.Common.{◌≡◌, ℕ, ◌+◌, ◌<◌, ◌^◌, ◌++◌, ◌∷◌, [], List, length, map, get_or, IsTrue, subst, sym, ap, ◌∙◌}
 use Rattle.std.specs.Prelude.{pos}
-use Rattle.gd_scale.specs.Scale.{Scale, less}
+use Rattle.gd_scale.specs.Scale.{Scale}
+use Rattle.gd_scale.specs.Laws.{less}
 use Rattle.gd_question.specs.Nodes.{start, stop}
 use Rattle.gd_mincost.specs.Settling.{potential}
 use Rattle.gd_solver.proofs.PotentialFalls.{each_with, map_with, length_with}

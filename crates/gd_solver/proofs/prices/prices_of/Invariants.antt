@@ -2,7 +2,7 @@ use Rattle.std.proofs.Common.{◌≡◌, ℕ, ◌<◌, ◌^◌, length, map, IsT
 use Rattle.std.specs.Prelude.{pos}
 use Rattle.gd_rules.specs.Priced.{price}
 use Rattle.gd_question.specs.Nodes.{start, stop}
-use Rattle.gd_scale.specs.Scale.{less}
+use Rattle.gd_scale.specs.Laws.{less}
 use Rattle.gd_mincost.specs.Settling.{potential}
 use Rattle.gd_solver.proofs.prices.prices_of.Given as goal
 

@@ -1,5 +1,6 @@
 use Rattle.std.proofs.Common.{◌≡◌, ◌+◌, ◌-◌, ◌≤◌, List, ap, ap₂, subst, ◌∙◌, arith}
-use Rattle.gd_rules.specs.Lines.{Key, Nomination, of_line, last_quantity, nominated, committed}
+use Rattle.gd_rules.specs.Lines.{Key, Nomination, of_line, last_quantity, committed}
+use Rattle.gd_rules.specs.Lists.{nominated}
 use Rattle.gd_machine.specs.Asking.{nominations}
 use Rattle.gd_book_part.proofs.Commitments.{committed_then, nominated_last}
 use Rattle.gd_book_part.proofs.tables.Tables.committed_with.Goals as goal

@@ -1,7 +1,7 @@
 use Rattle.std.proofs.Common.{◌≡◌, ℕ, zero, suc, List, [], length, get_or, refl, sym, ap, subst, ◌∙◌, arith}
 use Rattle.std.proofs.lemmas.Bool.{false≢true}
 use Rattle.gd_system.specs.Pipeline.{Pipeline}
-use Rattle.gd_question.specs.Rows.{AreOwn}
+use Rattle.gd_question.specs.Stored.{AreOwn}
 use Rattle.gd_question.proofs.Limits.{in_force-own}
 use Rattle.gd_contracts.specs.Holdings.{Holdings}
 use Rattle.gd_book_part.specs.LineConfirmations.{Tells, nothing}

@@ -2,7 +2,8 @@ use Rattle.std.proofs.Common.{◌≡◌, ◌<◌, ◌++◌, ◌∷◌, [], sym, 
 use Rattle.std.specs.List.{IsDistinct}
 use Rattle.std.specs.Map.{lookup}
 use Rattle.gd_system.specs.Pipeline.{same_name}
-use Rattle.gd_contracts.specs.Holdings.{Holdings, contract_named, checked_contract}
+use Rattle.gd_contracts.specs.Holdings.{Holdings, contract_named}
+use Rattle.gd_contracts.specs.Adding.{checked_contract}
 use Rattle.gd_contracts.specs.Known.{AreHoldings, IsBanded}
 use Rattle.gd_contracts.specs.Inside.{holdings_of, contract_of}
 use Rattle.gd_contracts.specs.declared.contract.Contract.{Contract}

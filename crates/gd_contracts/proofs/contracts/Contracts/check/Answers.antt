@@ -1,6 +1,7 @@
 use Rattle.std.proofs.Common.{◌≡◌, None, sym, ap, ◌∙◌, length, arith, subst}
 use Rattle.std.proofs.lemmas.List.{length-map}
-use Rattle.gd_contracts.specs.Holdings.{Holdings, contract_named, checked_contract, routed_within}
+use Rattle.gd_contracts.specs.Holdings.{Holdings, contract_named}
+use Rattle.gd_contracts.specs.Adding.{checked_contract, routed_within}
 use Rattle.gd_contracts.specs.Inside.{holdings_of, contract_of}
 use Rattle.gd_contracts.proofs.ContractNames.{some_named, duplicate_is, checked_is, too_many, few_enough, absent}
 use Rattle.gd_contracts.proofs.contracts.Contracts.check.Goals as goal

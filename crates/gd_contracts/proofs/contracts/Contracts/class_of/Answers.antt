@@ -1,6 +1,6 @@
 use Rattle.std.proofs.Common.{◌≡◌, sym, subst, ◌∙◌, Some}
 use Rattle.gd_contracts.specs.Holdings.{Holdings, contract_named}
-use Rattle.gd_contracts.specs.Classes.{HasClass}
+use Rattle.gd_contracts.specs.Classed.{HasClass}
 use Rattle.gd_contracts.specs.Inside.{holdings_of}
 use Rattle.gd_contracts.proofs.ContractNames.{found_served}
 use Rattle.gd_contracts.proofs.ClassAnswers.{class_is, told_is}

@@ -2,7 +2,8 @@ use Rattle.std.proofs.Common.{◌≡◌, ◌≤◌, ◌∷◌, ◌++◌, [], ℕ
 use Rattle.std.specs.Prelude.{◌+◌, ◌-◌, unwrap_or, All, nat_le, if◌then◌else◌}
 use Rattle.std.specs.Map.{lookup}
 use Rattle.std.specs.List.{position}
-use Rattle.gd_rules.specs.Lines.{Nomination, same_name, same_key, lines_of, find, nominated}
+use Rattle.gd_rules.specs.Lines.{Nomination, same_name, same_key, lines_of, find}
+use Rattle.gd_rules.specs.Lists.{nominated}
 use Rattle.gd_lines.specs.Kept.{nomination_of, AreKept}
 use Rattle.gd_lines.specs.LinesInside.{accepted_of, sum_in}
 use Rattle.gd_lines.specs.Numbering.{numbered, nomination}

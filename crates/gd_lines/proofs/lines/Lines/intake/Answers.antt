@@ -1,5 +1,5 @@
 use Rattle.std.proofs.Common.{◌==◌, ◌∙◌, ap, map, filter}
-use Rattle.gd_rules.specs.Lines.{numbered_intake}
+use Rattle.gd_rules.specs.Lists.{numbered_intake}
 use Rattle.gd_lines.specs.LinesInside.{accepted_of}
 use Rattle.gd_lines.proofs.Accept.{row_of, numbered_row, taken, over_ok}
 use Rattle.gd_lines.proofs.lines.Lines.intake.Goals as goal

@@ -1,6 +1,7 @@
 use Rattle.std.proofs.Common.{◌≡◌, ◌≤◌, ◌<◌, ℕ, List, Some, refl, subst, length, get_or}
 use Rattle.std.specs.List.{position}
-use Rattle.gd_rules.specs.Lines.{Key, Nomination, no_key, same_key, lines_of, find, line_key, nominated, committed}
+use Rattle.gd_rules.specs.Lines.{Key, Nomination, no_key, same_key, lines_of, find, line_key, committed}
+use Rattle.gd_rules.specs.Lists.{nominated}
 use Rattle.gd_lines.specs.LinesInside.{accepted_of}
 use Rattle.gd_lines.proofs.After.{last_within}
 use Rattle.gd_lines.proofs.Accept.{found_at}

@@ -2,7 +2,7 @@ use Rattle.std.proofs.Common.{◌<◌, ap, sym, ◌∙◌, length, arith, subst}
 use Rattle.std.proofs.lemmas.List.{get_or_read}
 use Rattle.gd_system.specs.Pipeline.{elements_of}
 use Rattle.gd_system.specs.Route.{element_at}
-use Rattle.gd_question.specs.Posing.{with_limit}
+use Rattle.gd_question.specs.InForce.{with_limit}
 use Rattle.gd_question.proofs.QuestionInside.{element_count_is, pool_is, limited_is}
 use Rattle.gd_question.proofs.question.Question.part.Goals as goal
 

@@ -2,7 +2,8 @@ use Rattle.std.proofs.Common.{rules, ◌≡◌, ◌<◌, ◌++◌, ◌∷◌, []
 use Rattle.std.specs.Result.{is_ok}
 use Rattle.std.proofs.lemmas.List.{length-append, length-map}
 use Rattle.gd_question.specs.Posing.{Posed}
-use Rattle.gd_question.specs.Rows.{IsRow, line_of}
+use Rattle.gd_question.specs.Rows.{line_of}
+use Rattle.gd_question.specs.Stored.{IsRow}
 use Rattle.gd_question.specs.declared.question.Row.{Row}
 use Rattle.gd_question.proofs.QuestionInside.{rows_more}
 use Rattle.gd_question.proofs.Sound.{Each}

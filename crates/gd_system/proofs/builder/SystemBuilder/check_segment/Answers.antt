@@ -1,6 +1,6 @@
 use Rattle.std.proofs.Common.{◌∙◌, sym, ap}
 use Rattle.gd_system.specs.BuilderInside.{pipeline_of}
-use Rattle.gd_system.specs.Pipeline.{joined_within}
+use Rattle.gd_system.specs.Building.{joined_within}
 use Rattle.gd_system.proofs.Checks.{checked_segment_is, too_many, few_enough}
 use Rattle.gd_system.proofs.builder.SystemBuilder.check_segment.Goals as goal
 

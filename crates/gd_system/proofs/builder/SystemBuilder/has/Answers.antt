@@ -1,6 +1,7 @@
 use Rattle.std.proofs.Common.{◌≡◌, true, false, sym, ap, ◌∙◌}
 use Rattle.gd_system.specs.BuilderInside.{pipeline_of}
-use Rattle.gd_system.specs.Pipeline.{known, names_of}
+use Rattle.gd_system.specs.Pipeline.{names_of}
+use Rattle.gd_system.specs.Building.{known}
 use Rattle.gd_system.proofs.Names.{known_segment, known_point, known_pool}
 use Rattle.gd_system.proofs.builder.SystemBuilder.has.Goals.{then-contains, else-contains}
 use Rattle.gd_system.proofs.builder.SystemBuilder.has.Goals as goal

@@ -1,7 +1,7 @@
 use Rattle.std.proofs.Common.{◌≡◌, ◌<◌, ◌++◌, ◌∷◌, [], ◌∙◌, sym, ap, subst, arith, length, false}
 use Rattle.std.proofs.lemmas.Grind.{common_steps}
 use Rattle.gd_system.specs.BuilderInside.{pipeline_of}
-use Rattle.gd_system.specs.Pipeline.{entered, checked_segment, known}
+use Rattle.gd_system.specs.Building.{entered, checked_segment, known}
 use Rattle.gd_system.proofs.Growth.{segment_kept, pushed, entered_new, length_push, passes_new}
 use Rattle.gd_system.proofs.builder.SystemBuilder.segment.Goals as goal
 

@@ -1,6 +1,6 @@
 use Rattle.std.proofs.Common.{Bool, sym, ap, ◌∙◌, Ok, Err}
 use Rattle.std.specs.Prelude.{if◌then◌else◌}
-use Rattle.gd_rules.specs.Tree.{place_of}
+use Rattle.gd_rules.specs.Question.{place_of}
 use Rattle.gd_system.specs.Route.{ends_at}
 use Rattle.gd_system.specs.SystemInside.{pipeline_of}
 use Rattle.gd_system.specs.declared.RouteFault.TheVariants.{NoRoute}
