@@ -4,11 +4,14 @@ import argparse
 import io
 import os
 import sys
+from collections.abc import Sequence
+from typing import TextIO
 
 from . import csv_format, html_format, json_format, text_format
 from .day import day_of, day_verdict
 from .facts import facts_of
 from .moments import Clock
+from .report import Report
 from .texts import ANSWER_KINDS, HEAD_KINDS, Fault, of_kinds, read_input
 from .verdicts import own_verdict, program_at, program_verdicts
 
@@ -17,17 +20,7 @@ says of each line and each element. The exit status is 0 after a PASS, 1 after a
 reading. docs/REPORT.md says more."""
 
 
-class Report:
-    """All that is shown; the facts and the day only after a PASS."""
-
-    def __init__(self):
-        self.verdicts, self.inputs, self.notes, self.facts, self.day = [], [], [], None, None
-
-    def passed(self):
-        return all(verdict.passed for verdict in self.verdicts)
-
-
-def arguments_of(words):
+def arguments_of(words: Sequence[str] | None) -> argparse.Namespace:
     parser = argparse.ArgumentParser(prog="gasday-report", description=DESCRIPTION)
     parser.add_argument("question", nargs="?", metavar="QUESTION", help="a text for `gasday solve`")
     parser.add_argument("answer", nargs="?", metavar="ANSWER", help="what `gasday solve` printed, or a posting's body")
@@ -52,7 +45,7 @@ def arguments_of(words):
     return arguments
 
 
-def add_answer(report, arguments, program):
+def add_answer(report: Report, arguments: argparse.Namespace, program: str) -> None:
     question, answer = read_input("question", arguments.question), read_input("answer", arguments.answer)
     report.inputs += [question, answer]
     for row in of_kinds(answer.rows(), ("fault", "broken", "refused")):
@@ -69,7 +62,7 @@ def add_answer(report, arguments, program):
         report.facts = facts_of(question, answer, asked, given)
 
 
-def add_day(report, arguments, program):
+def add_day(report: Report, arguments: argparse.Namespace, program: str) -> None:
     events, replies = read_input("events", arguments.events), read_input("replies", arguments.replies)
     report.inputs += [events, replies]
     verdict = day_verdict(program, events, replies)
@@ -78,7 +71,7 @@ def add_day(report, arguments, program):
         report.day = day_of(program, events, replies, Clock(arguments.local))
 
 
-def report_of(arguments):
+def report_of(arguments: argparse.Namespace) -> Report:
     report, program = Report(), program_at(arguments.gasday)
     Clock(arguments.local)
     if arguments.question is not None:
@@ -90,7 +83,7 @@ def report_of(arguments):
     return report
 
 
-def print_report(report, arguments, out):
+def print_report(report: Report, arguments: argparse.Namespace, out: TextIO) -> None:
     if arguments.format == "csv":
         if report.passed():
             csv_format.print_csv(report, arguments.table, out)
@@ -101,7 +94,7 @@ def print_report(report, arguments, out):
         report, out)
 
 
-def main(words):
+def main(words: Sequence[str] | None = None) -> int:
     arguments = arguments_of(words)
     try:
         report = report_of(arguments)

@@ -1,9 +1,12 @@
 """A gas day's calls, and what each was told."""
 
+from collections.abc import Iterator, Sequence
 from typing import NamedTuple
 
-from .texts import Fault, number_of, of_kinds, rows_in, written
-from .verdicts import Verdict, call as call_program
+from .moments import Clock
+from .texts import Fault, Input, Row, number_of, of_kinds, rows_in, written
+from .verdicts import Verdict
+from .verdicts import call as call_program
 from .words import CYCLES, counted, listed
 
 CALLS = ("nominate", "respond", "post", "freeze", "settle", "skip", "publish", "declare", "waive")
@@ -51,23 +54,23 @@ class Call(NamedTuple):
     asked: str
     refused: bool
     told: str
-    details: list
+    details: list[str]
 
 
 class Day(NamedTuple):
     date: str
     book: str
-    clock: object
-    cycles: list  # the number of each cycle with its six times in words
-    calls: list
+    clock: Clock
+    cycles: list[tuple[int, list[str]]]  # the number of each cycle with its six times in words
+    calls: list[Call]
 
 
-def cycle_name(field):
+def cycle_name(field: str) -> str:
     number = number_of(field, "replies")
     return f"cycle {number} ({CYCLES.get(number, 'unknown')})"
 
 
-def asked_words(row):
+def asked_words(row: Row) -> str:
     kind = row[0]
     if kind == "nominate":
         return f"{row[2]} nominates {row[7]} under {row[3]}, package {row[4]}, from {row[5]} to {row[6]}"
@@ -81,13 +84,13 @@ def asked_words(row):
     return words[kind]
 
 
-def refusal_words(row):
+def refusal_words(row: Row) -> str:
     detail = " at ".join(field for field in row[4:6] if field)
     words = REFUSALS.get(row[3], "the rule of this name")
     return f"refused, {row[3]}: {words.format(detail) if detail else words.replace(' ({})', '')}"
 
 
-def told_words(row, rest):
+def told_words(row: Row, rest: Sequence[Row]) -> str:
     kind = row[0]
     if kind == "refused":
         return refusal_words(row)
@@ -106,15 +109,15 @@ def told_words(row, rest):
     return f"{head}, {listed(totals) or 'nothing'} scheduled{more}"
 
 
-def detail_words(row):
+def detail_words(row: Row) -> str:
     return {"bound": f"line {row[1]}, class {row[2]}: floor {row[3]}, ceiling {row[4]}",
             "sched": f"line {row[1]}: {row[2]} scheduled", "bumped": f"line {row[1]}: bumped by {row[2]}",
             "inside": f"inside the cut: {row[1]} {row[2]}", "total": f"class {row[1]}: {row[2]} in all"}[row[0]]
 
 
-def groups_of(rows):
+def groups_of(rows: Sequence[Row]) -> list[tuple[Row, list[Row]]]:
     """The replies call by call: a head with the rows behind it."""
-    groups = []
+    groups: list[tuple[Row, list[Row]]] = []
     for row in rows:
         if row[0] in HEADS:
             groups.append((row, []))
@@ -125,17 +128,17 @@ def groups_of(rows):
     return groups
 
 
-def check_fields(row, name):
+def check_fields(row: Row, name: str) -> None:
     if not all(row[:FIELDS.get(row[0], 2)]):
         raise Fault(f"{name}: {','.join(row)} lacks a field")
 
 
-def calls_of(events, replies, clock):
+def calls_of(events: Sequence[Row], replies: Sequence[Row], clock: Clock) -> Iterator[Call]:
     asked = of_kinds(events, CALLS)
     groups = groups_of(replies)
     if len(groups) != len(asked):
         raise Fault(f"the replies tell of {counted(len(groups), 'call')}, the events have {len(asked)}")
-    for number, (row, (head, rest)) in enumerate(zip(asked, groups), 1):
+    for number, (row, (head, rest)) in enumerate(zip(asked, groups, strict=True), 1):
         check_fields(row, "events")
         check_fields(head, "replies")
         seconds = number_of(row[1], "events")
@@ -143,7 +146,7 @@ def calls_of(events, replies, clock):
                    told_words(head, rest), [detail_words(detail) for detail in rest if detail[0] != "total"])
 
 
-def cycles_of(program, row, clock):
+def cycles_of(program: str, row: Row, clock: Clock) -> Iterator[tuple[int, list[str]]]:
     """The day's cycles with their times, as `gasday calendar` tells them."""
     out, _ = call_program(program, ["calendar"], written([row]))
     for told in of_kinds(rows_in(out, "gasday calendar"), ("cycle",)):
@@ -151,7 +154,7 @@ def cycles_of(program, row, clock):
         yield number, [clock.show(moment) for moment in moments]
 
 
-def day_verdict(program, events, replies):
+def day_verdict(program: str, events: Input, replies: Input) -> Verdict:
     """Whether `gasday day` tells once more what the replies hold."""
     told = rows_in(call_program(program, ["day"], events.data)[0], "gasday day")
     if told and told[0][0] == "fault":
@@ -159,12 +162,12 @@ def day_verdict(program, events, replies):
     held = [row for row in replies.rows() if row[:2] != ["refused", "keep"]]
     if told == held:
         return Verdict("gasday day", True, f"told again, the events give these {counted(len(held), 'row')}")
-    at = next((k for k, (a, b) in enumerate(zip(told, held)) if a != b), min(len(told), len(held)))
+    at = next((k for k, (a, b) in enumerate(zip(told, held, strict=False)) if a != b), min(len(told), len(held)))
     sides = [",".join(rows[at]).rstrip(",") if at < len(rows) else "nothing" for rows in (held, told)]
     return Verdict("gasday day", False, f"row {at + 1} of the replies is {sides[0]}, and gasday day tells {sides[1]}")
 
 
-def day_of(program, events, replies, clock):
+def day_of(program: str, events: Input, replies: Input, clock: Clock) -> Day:
     rows = events.rows()
     heads = of_kinds(rows, ("day",))
     if len(heads) != 1:

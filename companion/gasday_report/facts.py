@@ -1,10 +1,12 @@
 """What an answer that passed says of each line and each element; every format is made of these facts."""
 
+from collections.abc import Iterator, Mapping, Sequence
 from typing import NamedTuple
 
-import certificate
-from .reasons import Reasons
-from .texts import Fault, number_of, of_kinds
+from certificate import NOTHING, Answer, Crossing, Question, Sums, Words, crossing_of, sums_of
+
+from .reasons import Reason, Reasons
+from .texts import Fault, Input, Row, number_of, of_kinds
 
 
 class LineFact(NamedTuple):
@@ -14,12 +16,12 @@ class LineFact(NamedTuple):
     class_number: int
     floor: int
     ceiling: int
-    scheduled: object  # None where a cut shows that there is no schedule
-    short: object
-    bumped: object  # None where the answer tells of no bumped line
-    reason: object  # a Reason where the line is short
-    cut_way: str  # of a cut: out, in or nothing
-    cut_quantity: object
+    scheduled: int | None = None  # none where a cut shows that there is no schedule
+    short: int | None = None
+    bumped: int | None = None  # none where the answer tells of no bumped line
+    reason: Reason | None = None  # where the line is short
+    cut_way: str = ""  # of a cut: out, in or nothing
+    cut_quantity: int | None = None
 
 
 class ElementFact(NamedTuple):
@@ -28,102 +30,120 @@ class ElementFact(NamedTuple):
     start: str  # the place that a segment leaves, or the place of a point or pool
     end: str  # the place that a segment enters
     operator: str
-    capacity: object  # None at a pool
-    load: object  # of a pool what enters it
-    room: object
-    price: object  # None where there is none
-    inside: object  # of a cut: whether a point or pool is a member
-    cut_capacity: object  # of a cut: what can flow out by it
+    capacity: int | None  # none at a pool
+    load: int | None  # of a pool what enters it
+    room: int | None
+    price: Words | None  # none where all its words are 0
+    inside: bool | None  # of a cut: whether a point or pool is a member
+    cut_capacity: int | None  # of a cut: what can flow out by it
+
+
+class Total(NamedTuple):
+    """Of all lines of a class."""
+
+    class_number: int
+    asked: int  # their ceilings
+    given: int  # what is scheduled
 
 
 class Facts(NamedTuple):
     book: str
     cycle: int
     round: int
-    is_cut: bool
-    lines: list
-    elements: list
-    totals: list  # of each class with a line: class, ceilings, scheduled
-    sums: object  # of a cut: what must leave, what can come back, what can flow out, and the excess
-    members: list  # of a cut: kind and name, in order of entry
-    asked: object  # the question as certificate.py read it
+    lines: list[LineFact]
+    elements: list[ElementFact]
+    totals: list[Total]  # of each class with a line
+    sums: Sums | None  # of a cut
+    members: list[tuple[str, str]]  # of a cut: kind and name, in order of entry
+    asked: Question
+
+    @property
+    def is_cut(self) -> bool:
+        return self.sums is not None
 
 
-def bumped_of(rows, count):
-    """What the `bumped` rows say, by line; None where there are none."""
-    bumped = {}
+def bumped_of(rows: Sequence[Row], count: int) -> dict[int, int]:
+    """What the `bumped` rows say, by line."""
+    bumped: dict[int, int] = {}
     for row in of_kinds(rows, ("bumped",)):
         line = number_of(row[1], "bumped")
         if not 1 <= line <= count or line in bumped:
             raise Fault(f"bumped: line {row[1]} is not one of {count} lines, or is given twice")
         bumped[line] = number_of(row[2], "bumped")
-    return bumped or None
+    return bumped
 
 
-def scheduled_lines(asked, answer, loads, bumped):
+def scheduled_lines(asked: Question, answer: Answer, loads: Mapping[str, int], bumped: Mapping[int, int]) -> Iterator[LineFact]:
     reasons = Reasons(asked, answer, loads)
-    for number, (line, quantity) in enumerate(zip(asked.lines, answer.quantities), 1):
-        more = None if bumped is None else bumped.get(number, 0)
-        yield LineFact(number, *line, quantity, line.ceiling - quantity, more, reasons.reason(number), "", None)
+    for number, (line, quantity) in enumerate(zip(asked.lines, answer.quantities, strict=True), 1):
+        more = bumped.get(number, 0) if bumped else None
+        yield LineFact(number, *line, scheduled=quantity, short=line.ceiling - quantity, bumped=more,
+                       reason=reasons.reason(number))
 
 
-def cut_lines(asked, crossing):
-    must_leave, can_return, _ = crossing
-    ways = {number: ("out", quantity) for number, quantity in must_leave}
-    ways.update((number, ("in", quantity)) for number, quantity in can_return)
+def cut_lines(asked: Question, crossing: Crossing) -> Iterator[LineFact]:
+    ways = {number: ("out", quantity) for number, quantity in crossing.must_leave}
+    ways.update((number, ("in", quantity)) for number, quantity in crossing.can_return)
     for number, line in enumerate(asked.lines, 1):
-        yield LineFact(number, *line, None, None, None, None, *ways.get(number, ("", None)))
+        way, quantity = ways.get(number, ("", None))
+        yield LineFact(number, *line, cut_way=way, cut_quantity=quantity)
 
 
-def entering(asked, quantities):
+def entering(asked: Question, quantities: Sequence[int]) -> dict[str, int]:
     """What enters each pool."""
-    sums = {}
-    for line, quantity in zip(asked.lines, quantities):
+    sums: dict[str, int] = {}
+    for line, quantity in zip(asked.lines, quantities, strict=True):
         sums[line.destination] = sums.get(line.destination, 0) + quantity
     return sums
 
 
-def element_facts(asked, rows, loads, answer, crossing):
+def element_facts(asked: Question, rows: Sequence[Row], answer: Answer, loads: Mapping[str, int] | None,
+                  crossing: Crossing | None) -> Iterator[ElementFact]:
+    """Of a schedule with its loads, or of a cut with what crosses its set."""
     operators = {row[1]: row[4 if row[0] == "point" else 3] for row in of_kinds(rows, ("point", "pool"))}
-    names, into = list(asked.places), entering(asked, answer.quantities)
-    ways_out = dict(crossing[2]) if crossing else {}
-    for element in asked.in_order():
-        pool = element.kind == "pool"
-        load = None if loads is None else into.get(element.name, 0) if pool else loads[element.name]
-        price = answer.prices.get(element.name, certificate.NOTHING)
-        member = ("pool" if pool else "point", element.name) in answer.members
+    names = list(asked.places)
+    into = {} if loads is None else entering(asked, answer.quantities)
+    ways_out = dict(crossing.can_flow) if crossing else {}
+    for name, kind, ends, capacity in asked.in_order():
+        is_pool, is_segment = kind == "pool", kind == "segment"
+        load = None if loads is None else into.get(name, 0) if is_pool else loads[name]
+        price = answer.prices.get(name, NOTHING)
+        is_member = ("pool" if is_pool else "point", name) in answer.members
         yield ElementFact(
-            element.name, element.kind, names[element.ends[0]],
-            names[element.ends[1]] if element.kind == "segment" else "", operators.get(element.name, ""),
-            None if pool else element.capacity, load, None if pool or load is None else element.capacity - load,
-            price if price != certificate.NOTHING else None,
-            None if crossing is None or element.kind == "segment" else member, ways_out.get(element.name))
+            name=name, kind=kind, start=names[ends[0]], end=names[ends[1]] if is_segment else "",
+            operator=operators.get(name, ""), capacity=None if is_pool else capacity, load=load,
+            room=None if is_pool or load is None else capacity - load, price=price if price != NOTHING else None,
+            inside=None if crossing is None or is_segment else is_member, cut_capacity=ways_out.get(name))
 
 
-def totals_of(lines):
-    """Ceilings and scheduled quantities of each class with a line."""
-    sums = {}
+def totals_of(lines: Sequence[LineFact]) -> list[Total]:
+    sums: dict[int, tuple[int, int]] = {}
     for line in lines:
         asked, given = sums.get(line.class_number, (0, 0))
         sums[line.class_number] = asked + line.ceiling, given + (line.scheduled or 0)
-    return [(number, *sums[number]) for number in sorted(sums)]
+    return [Total(number, *sums[number]) for number in sorted(sums)]
 
 
-def members_of(asked, answer):
+def members_of(asked: Question, answer: Answer) -> list[tuple[str, str]]:
     """The members of a cut, places first, each kind in order of entry."""
+    places = [("place", name) for name in asked.places]
     ends = [("pool" if e.kind == "pool" else "point", e.name) for e in asked.in_order() if e.kind != "segment"]
-    return [member for member in [("place", name) for name in asked.places] + ends if member in answer.members]
+    return [member for member in places + ends if member in answer.members]
 
 
-def facts_of(question, answer_file, asked, answer):
+def facts_of(question: Input, answer_file: Input, asked: Question, answer: Answer) -> Facts:
     """The facts of a question and an answer that passed."""
     rows = question.rows()
-    head = of_kinds(rows, ("question",))[0]
-    crossing = certificate.crossing_of(asked, answer.members) if answer.is_cut else None
-    loads = None if answer.is_cut else asked.loads(answer.quantities)
+    _, book, cycle, times = of_kinds(rows, ("question",))[0][:4]
     bumped = bumped_of(answer_file.rows(), len(asked.lines))
-    lines = list(cut_lines(asked, crossing) if crossing else scheduled_lines(asked, answer, loads, bumped))
-    elements = list(element_facts(asked, rows, loads, answer, crossing))
-    members, sums = (members_of(asked, answer), certificate.sums_of(crossing)) if crossing else ([], None)
-    cycle, times = number_of(head[2], "question"), number_of(head[3], "question")
-    return Facts(head[1], cycle, times, answer.is_cut, lines, elements, totals_of(lines), sums, members, asked)
+    if answer.is_cut:
+        crossing, loads = crossing_of(asked, answer.members), None
+        lines = list(cut_lines(asked, crossing))
+        members, sums = members_of(asked, answer), sums_of(crossing)
+    else:
+        crossing, loads = None, asked.loads(answer.quantities)
+        lines = list(scheduled_lines(asked, answer, loads, bumped))
+        members, sums = [], None
+    elements = list(element_facts(asked, rows, answer, loads, crossing))
+    return Facts(book, number_of(cycle, "question"), number_of(times, "question"), lines, elements, totals_of(lines), sums,
+                 members, asked)

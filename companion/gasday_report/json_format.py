@@ -1,19 +1,26 @@
 """The report as JSON. docs/REPORT.md lists the names, which stay as they are."""
 
 import json
+from typing import Any, TextIO
 
-from certificate import CLASSES
+from certificate import CLASSES, Sums
+
+from .day import Day
+from .facts import ElementFact, Facts, LineFact
+from .reasons import Reason
+from .report import Report
 
 VERSION = 1
+Names = dict[str, Any]
 
 
-def reason_of(reason):
+def reason_of(reason: Reason | None) -> Names | None:
     if reason is None:
         return None
     return {"elements": reason.elements, "words": reason.words, "more": reason.more, "next": reason.rest}
 
 
-def line_of(line):
+def line_of(line: LineFact) -> Names:
     return {
         "line": line.number, "origin": line.origin, "destination": line.destination, "class": line.class_number,
         "floor": line.floor, "ceiling": line.ceiling, "scheduled": line.scheduled, "short": line.short,
@@ -22,7 +29,7 @@ def line_of(line):
     }
 
 
-def element_of(element):
+def element_of(element: ElementFact) -> Names:
     price = element.price and {"classes": element.price[:CLASSES], "spread": element.price[CLASSES:]}
     return {
         "element": element.name, "kind": element.kind, "from": element.start, "to": element.end or None,
@@ -32,33 +39,32 @@ def element_of(element):
     }
 
 
-def cut_of(facts):
-    leave, back, flow, excess = facts.sums
+def cut_of(facts: Facts, sums: Sums) -> Names:
     members = [{"kind": kind, "name": name} for kind, name in facts.members]
-    return {"excess": excess, "must_leave": leave, "can_return": back, "can_flow": flow, "members": members}
+    return {"excess": sums.excess, "must_leave": sums.leave, "can_return": sums.back, "can_flow": sums.flow, "members": members}
 
 
-def facts_of(facts):
+def facts_of(facts: Facts) -> Names:
     return {
         "question": {"book": facts.book, "cycle": facts.cycle, "round": facts.round},
         "kind": "cut" if facts.is_cut else "best",
         "totals": [{"class": c, "ceiling": asked, "scheduled": None if facts.is_cut else given}
                    for c, asked, given in facts.totals],
-        "cut": cut_of(facts) if facts.is_cut else None,
+        "cut": None if facts.sums is None else cut_of(facts, facts.sums),
         "lines": [line_of(line) for line in facts.lines],
         "elements": [element_of(element) for element in facts.elements],
     }
 
 
-def day_of(day):
+def day_of(day: Day) -> Names:
     return {
         "date": day.date, "book": day.book, "clock": day.clock.name,
-        "calls": [{"call": call.number, "moment": call.seconds, "local": call.moment, "kind": call.kind,
-                   "refused": call.refused, "asked": call.asked, "told": call.told, "details": call.details} for call in day.calls],
+        "calls": [{"call": call.number, "moment": call.seconds, "local": call.moment, "kind": call.kind, "refused": call.refused,
+                   "asked": call.asked, "told": call.told, "details": call.details} for call in day.calls],
     }
 
 
-def json_of(report):
+def json_of(report: Report) -> Names:
     whole = {
         "report": "gasday-report", "version": VERSION, "passed": report.passed(),
         "verdicts": [{"by": v.by, "passed": v.passed, "words": v.words} for v in report.verdicts],
@@ -72,6 +78,6 @@ def json_of(report):
     return whole
 
 
-def print_json(report, out):
+def print_json(report: Report, out: TextIO) -> None:
     json.dump(json_of(report), out, indent=1)
     out.write("\n")

@@ -2,6 +2,7 @@
 
 import shutil
 import subprocess
+from collections.abc import Mapping, Sequence
 from typing import NamedTuple
 
 INCH = 72
@@ -10,12 +11,14 @@ LAYER, SLOT, MARGIN = 250, 44, 60
 LETTERS = 15  # how far above its curve a label stands
 HEAD = 10  # the length of an arrow's head, which goes on from its curve
 
+Point = tuple[float, float]
+
 
 class Node(NamedTuple):
     key: str
     width: int
     height: int
-    beside: object = None  # the key of a node in whose layer this one stands
+    beside: str | None = None  # the key of a node in whose layer this one stands
 
 
 class Edge(NamedTuple):
@@ -24,15 +27,20 @@ class Edge(NamedTuple):
     label: int  # the width that its label takes, in letters; 0 for none
 
 
+class Curve(NamedTuple):
+    points: list[Point]  # of cubic pieces
+    label: Point | None  # the middle of the label
+
+
 class Layout(NamedTuple):
     width: float
     height: float
-    nodes: dict  # the middle of each node, by key
-    curves: dict  # for each tail and head: the points of a curve of cubic pieces, and the middle of the label or None
+    nodes: dict[str, Point]  # the middle of each node, by key
+    curves: dict[tuple[str, str], Curve]  # for each tail and head
     by_dot: bool
 
 
-def dot_source(nodes, edges):
+def dot_source(nodes: Sequence[Node], edges: Sequence[Edge]) -> str:
     """The graph in dot's language. It has numbers in place of names, so nothing in it needs quoting."""
     at = {node.key: number for number, node in enumerate(nodes)}
     rows = ["digraph {", "rankdir=LR; nodesep=0.28; ranksep=0.45;", 'node [shape=box fixedsize=true label=""];',
@@ -47,13 +55,16 @@ def dot_source(nodes, edges):
     return "\n".join([*rows, "}"])
 
 
-def point(words, height):
+def point(words: Sequence[str], height: float) -> Point:
     return float(words[0]) * INCH, height - float(words[1]) * INCH
 
 
-def read_plain(text, nodes):
+def read_plain(text: str, nodes: Sequence[Node]) -> Layout:
     """What `dot -Tplain` printed; its y grows upwards."""
-    keys, height, places, curves = [node.key for node in nodes], 0, {}, {}
+    keys, height = [node.key for node in nodes], 0.0
+    width: float | None = None
+    places: dict[str, Point] = {}
+    curves: dict[tuple[str, str], Curve] = {}
     for row in text.splitlines():
         kind, *words = row.split()
         if kind == "graph":
@@ -65,11 +76,13 @@ def read_plain(text, nodes):
             points = [point(words[k:k + 2], height) for k in range(3, 3 + 2 * count, 2)]
             rest = words[3 + 2 * count:]
             label = point(rest[1:3], height) if len(rest) == 5 else None
-            curves[keys[int(words[0][1:])], keys[int(words[1][1:])]] = points, label
+            curves[keys[int(words[0][1:])], keys[int(words[1][1:])]] = Curve(points, label)
+    if width is None:
+        raise ValueError("dot tells of no graph")
     return Layout(width, height, places, curves, True)
 
 
-def by_dot(nodes, edges):
+def by_dot(nodes: Sequence[Node], edges: Sequence[Edge]) -> Layout | None:
     """dot's layout, or None where it isn't there or doesn't end."""
     program = shutil.which("dot")
     if not program or not nodes:
@@ -78,14 +91,14 @@ def by_dot(nodes, edges):
         done = subprocess.run([program, "-Tplain"], input=dot_source(nodes, edges), capture_output=True, text=True,
                               timeout=SECONDS)
         return read_plain(done.stdout, nodes) if done.returncode == 0 else None
-    except (OSError, subprocess.TimeoutExpired, ValueError, IndexError, UnboundLocalError):
+    except (OSError, subprocess.TimeoutExpired, ValueError, IndexError):
         return None
 
 
-def neighbours_of(nodes, edges):
+def neighbours_of(nodes: Sequence[Node], edges: Sequence[Edge]) -> dict[str, list[tuple[str, int]]]:
     """For each node the nodes that an edge joins it to, each with how many layers further it stands."""
     beside = {node.key for node in nodes if node.beside is not None}
-    near = {node.key: [] for node in nodes}
+    near: dict[str, list[tuple[str, int]]] = {node.key: [] for node in nodes}
     for edge in edges:
         step = 0 if edge.tail in beside or edge.head in beside else 1
         near[edge.tail].append((edge.head, step))
@@ -93,42 +106,48 @@ def neighbours_of(nodes, edges):
     return near
 
 
-def plain(nodes, edges):
+def plain(nodes: Sequence[Node], edges: Sequence[Edge]) -> Layout:
     """A layer for each step along the gas; within the layers the leaves of the tree stand in turn, and each other node
     in the middle of what hangs on it."""
-    near, layer, order, above = neighbours_of(nodes, edges), {}, [], {}
+    near = neighbours_of(nodes, edges)
+    layer: dict[str, int] = {}
+    order: list[str] = []
+    above: dict[str, str | None] = {}
     for node in nodes:
-        stack = [] if node.key in layer else [(node.key, None, 0)]
+        stack: list[tuple[str, str | None, int]] = [] if node.key in layer else [(node.key, None, 0)]
         while stack:
             key, parent, level = stack.pop()
             layer[key], above[key] = level, parent
             order.append(key)
             stack += [(other, key, level + step) for other, step in reversed(near[key]) if other != parent]
-    slots, hanging, used = {}, {}, 0
+    slots: dict[str, float] = {}
+    hanging: dict[str | None, list[float]] = {}
+    used = 0
     for key in reversed(order):
         below = hanging.get(key)
         slots[key] = sum(below) / len(below) if below else used
         used += not below
         hanging.setdefault(above[key], []).append(slots[key])
     least = min(layer.values())
-    places = {key: (MARGIN + 60 + (layer[key] - least) * LAYER, MARGIN + (used - 1 - slots[key]) * SLOT) for key in order}
-    places = apart(places)
+    places = apart({key: (MARGIN + 60 + (layer[key] - least) * LAYER, MARGIN + (used - 1 - slots[key]) * SLOT) for key in order})
     size = {node.key: node for node in nodes}
     curves = {(edge.tail, edge.head): straight(places, size, edge, near) for edge in edges}
     width = max(x for x, _ in places.values()) + MARGIN + 60
     return Layout(width, max(y for _, y in places.values()) + MARGIN, places, curves, False)
 
 
-def apart(places):
+def apart(places: Mapping[str, Point]) -> dict[str, Point]:
     """Moves nodes of one layer that would touch one another downwards."""
-    moved, last = {}, {}
+    moved: dict[str, Point] = {}
+    last: dict[float, float] = {}
     for key, (x, y) in sorted(places.items(), key=lambda item: item[1][1]):
         y = max(y, last.get(x, -SLOT) + SLOT)
         moved[key], last[x] = (x, y), y
     return moved
 
 
-def straight(places, size, edge, near):
+def straight(places: Mapping[str, Point], size: Mapping[str, Node], edge: Edge,
+             near: Mapping[str, Sequence[tuple[str, int]]]) -> Curve:
     """A curve from a node's right side to the next one's left side, or straight down where they stand in one layer. The
     label stands towards the node with fewer edges, where the curve is by itself."""
     (x1, y1), (x2, y2) = places[edge.tail], places[edge.head]
@@ -141,8 +160,8 @@ def straight(places, size, edge, near):
     points = [(x1, y1), (middle, y1), (middle, y2), (x2, y2)]
     share = 0.3 if len(near[edge.tail]) <= len(near[edge.head]) else 0.7
     label = x1 + share * (x2 - x1), (y1 if share < 0.5 else y2) - LETTERS
-    return points, (label if edge.label else None)
+    return Curve(points, label if edge.label else None)
 
 
-def laid_out(nodes, edges):
+def laid_out(nodes: Sequence[Node], edges: Sequence[Edge]) -> Layout:
     return by_dot(nodes, edges) or plain(nodes, edges)

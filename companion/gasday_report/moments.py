@@ -1,6 +1,7 @@
 """Moments, which are seconds since 1970-01-01T00:00:00Z, by the clock of a zone."""
 
-from datetime import datetime, timezone
+from datetime import UTC, datetime, tzinfo
+from zoneinfo import ZoneInfo
 
 from .texts import Fault
 
@@ -8,19 +9,17 @@ from .texts import Fault
 class Clock:
     """A zone of Python's zoneinfo by its name, or UTC."""
 
-    def __init__(self, name=None):
-        self.name, self.zone = name or "UTC", timezone.utc
-        if name:
-            self.zone = zone_of(name)
+    def __init__(self, name: str | None = None) -> None:
+        self.name = name or "UTC"
+        self.zone = zone_of(name) if name else UTC
 
-    def show(self, moment):
+    def show(self, moment: int) -> str:
         local = datetime.fromtimestamp(moment, self.zone)
         return f"{local:%Y-%m-%d %H:%M:%S} {local.tzname()}"
 
 
-def zone_of(name):
+def zone_of(name: str) -> tzinfo:
     try:
-        from zoneinfo import ZoneInfo
         return ZoneInfo(name)
-    except (ImportError, KeyError, ValueError, OSError):
+    except (KeyError, ValueError, OSError):
         raise Fault(f"--local: there is no zone {name} (a name such as America/Chicago is wanted)") from None

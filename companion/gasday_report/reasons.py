@@ -1,9 +1,11 @@
 """Why a line is short: the elements whose prices its next dekatherm would have to pay, traced through pools to what is
 full."""
 
+from collections.abc import Mapping
 from typing import NamedTuple
 
-from certificate import NOTHING, plus, tenth_of, worth_of
+from certificate import NOTHING, Answer, Line, Question, Words, plus, tenth_of, worth_of
+
 from .words import counted, displaced, full, listed
 
 # A route may have thousands of priced segments: so many of a rank are looked at from each end, and so many are named.
@@ -11,7 +13,7 @@ MOST_LOOKED_AT = 32
 MOST_NAMED = 3
 
 
-def rank_of(amount):
+def rank_of(amount: Words) -> int:
     """Greater amounts have lesser ranks, by their first word that isn't 0: it decides before all words behind it."""
     at = next(k for k, word in enumerate(amount) if word)
     return at if amount[at] > 0 else 2 * len(amount) - at
@@ -21,12 +23,12 @@ class Payment(NamedTuple):
     """What a dekatherm of a line pays at one element."""
 
     element: str
-    amount: tuple
+    amount: Words
 
 
 class Reason(NamedTuple):
-    elements: list  # by name, those that pay most first
-    words: list  # a sentence of each
+    elements: list[str]  # by name, those that pay most first
+    words: list[str]  # a sentence of each
     more: int  # elements of the route with a price that are not named
     rest: str  # how the next dekatherm's worth compares
 
@@ -34,8 +36,8 @@ class Reason(NamedTuple):
 class Trace(NamedTuple):
     """What keeps more gas from leaving a pool, or from being brought into it."""
 
-    pools: list  # the pools that were passed, the first being the pool itself
-    full: list  # the full elements at which the ways end, by name
+    pools: list[str]  # the pools that were passed, the first being the pool itself
+    full: list[str]  # the full elements at which the ways end, by name
     open_lines: int  # lines of these pools, on that side, that are below their ceilings
     filled_lines: int  # and those that are at them
 
@@ -43,26 +45,27 @@ class Trace(NamedTuple):
 class Reasons:
     """Looks up reasons by line number (from 1) in the prices of a schedule that passed."""
 
-    def __init__(self, question, answer, loads):
+    def __init__(self, question: Question, answer: Answer, loads: Mapping[str, int]) -> None:
         self.question, self.prices, self.loads = question, answer.prices, loads
         self.quantities, self.costs = answer.quantities, question.costs(answer.prices)
         self.ranks = [rank_of(price) if price != NOTHING else None for price in map(self.price, question.segment_at)]
-        self.priced_above = {rank: self.find_priced(rank) for rank in sorted(set(self.ranks) - {None})}
+        ranks = sorted({rank for rank in self.ranks if rank is not None})
+        self.priced_above = {rank: self.find_priced(rank) for rank in ranks}
         self.priced_count = self.count_priced()
         self.lines_out, self.lines_in = self.lines_of_pools()
-        self.traces = {}
+        self.traces: dict[tuple[str, bool], Trace] = {}
 
-    def price(self, name):
+    def price(self, name: str) -> Words:
         return self.prices.get(name, NOTHING)
 
-    def find_priced(self, rank):
+    def find_priced(self, rank: int) -> list[int | None]:
         """For each place the nearest one, itself or above it, whose segment upwards has a price of this rank; else None."""
-        nearest = [None]
+        nearest: list[int | None] = [None]
         for place in range(1, len(self.question.parent)):
             nearest.append(place if self.ranks[place] == rank else nearest[self.question.parent[place]])
         return nearest
 
-    def count_priced(self):
+    def count_priced(self) -> list[int]:
         """Priced segments from the root, counted with the sign of their direction: along a route they differ by how many
         it passes."""
         counts = [0]
@@ -71,17 +74,19 @@ class Reasons:
             counts.append(counts[self.question.parent[place]] + (step if self.ranks[place] is not None else 0))
         return counts
 
-    def lines_of_pools(self):
-        out, into = {}, {}
+    def lines_of_pools(self) -> tuple[dict[str, list[int]], dict[str, list[int]]]:
+        out: dict[str, list[int]] = {}
+        into: dict[str, list[int]] = {}
         for number, line in enumerate(self.question.lines, 1):
             for table, end in ((out, line.origin), (into, line.destination)):
                 if self.question.elements[end].kind == "pool":
                     table.setdefault(end, []).append(number)
         return out, into
 
-    def segments_of_rank(self, rank, start, end):
+    def segments_of_rank(self, rank: int, start: int, end: int) -> list[str]:
         """The first segments of the route between two places whose price has a rank, from either end."""
-        question, above, found = self.question, self.priced_above[rank], []
+        question, above = self.question, self.priced_above[rank]
+        found: list[str] = []
         for foot, other in ((start, end), (end, start)):
             place = above[foot]
             for _ in range(MOST_LOOKED_AT):
@@ -91,21 +96,21 @@ class Reasons:
                 place = above[question.parent[place]]
         return found
 
-    def priced_segments(self, start, end):
+    def priced_segments(self, start: int, end: int) -> list[str]:
         """Segments of the route with the greatest prices, and those with prices below zero: no less than are named, if
         there are so many."""
-        found = []
+        found: list[str] = []
         above_zero = [rank for rank in self.priced_above if rank < len(NOTHING)]
         below_zero = [rank for rank in reversed(self.priced_above) if rank > len(NOTHING)]
         for ranks in (above_zero, below_zero):
-            side = []
+            side: list[str] = []
             for rank in ranks:
                 if len(side) < MOST_NAMED:
                     side += self.segments_of_rank(rank, start, end)
             found += side
         return found
 
-    def payments(self, number):
+    def payments(self, number: int) -> tuple[list[Payment], list[Payment], int]:
         """The most that the line pays and gets back, in lists that the greatest begin; and how many elements of its route
         have a price."""
         line, question = self.question.lines[number - 1], self.question
@@ -117,12 +122,13 @@ class Reasons:
         count = self.priced_count[start] - self.priced_count[end]
         return paid, back, count + sum(self.price(name) != NOTHING for name in (line.origin, line.destination))
 
-    def trace(self, pool, leaving):
+    def trace(self, pool: str, leaving: bool) -> Trace:
         """Follows the lines that could take more out of a pool (or bring more into it) to the full elements on their ways,
         through other pools with a price of the same sign."""
         if (pool, leaving) in self.traces:
             return self.traces[pool, leaving]
-        pools, ends, open_lines, filled_lines = [pool], {}, 0, 0
+        pools, open_lines, filled_lines = [pool], 0, 0
+        ends: dict[str, None] = {}
         table = self.lines_out if leaving else self.lines_in
         for at in pools:
             for number in table.get(at, ()):
@@ -131,23 +137,23 @@ class Reasons:
                     filled_lines += 1
                     continue
                 open_lines += 1
-                self.follow(line, number, at, pools, ends)
+                self.follow(line, number, pools, ends)
         trace = Trace(pools, list(ends), open_lines, filled_lines)
         self.traces[pool, leaving] = trace
         return trace
 
-    def follow(self, line, number, pool, pools, ends):
+    def follow(self, line: Line, number: int, pools: list[str], ends: dict[str, None]) -> None:
+        """Notes the full elements of a line's way, and the pool at its other end."""
         for payment in self.payments(number)[0]:
             if self.question.elements[payment.element].kind != "pool":
                 ends[payment.element] = None
-            elif payment.element != pool and payment.element in (line.origin, line.destination):
-                if payment.element not in pools:
-                    pools.append(payment.element)
+            elif payment.element in (line.origin, line.destination) and payment.element not in pools:
+                pools.append(payment.element)
 
-    def of_element(self, name):
+    def of_element(self, name: str) -> str:
         return full(name, self.loads[name], self.question.elements[name].capacity)
 
-    def pool_words(self, pool, leaving):
+    def pool_words(self, pool: str, leaving: bool) -> str:
         """Why no more goes through a pool, in words."""
         trace = self.trace(pool, leaving)
         ways = "leave it" if leaving else "be brought into it"
@@ -164,7 +170,7 @@ class Reasons:
         more = [f"{len(trace.full) - MOST_NAMED} more"] if len(trace.full) > MOST_NAMED else []
         return f"more could {ways}{through} only past what is full: {listed(named + more)}"
 
-    def words_of(self, payment, line):
+    def words_of(self, payment: Payment, line: Line) -> str:
         element = self.question.elements[payment.element]
         if element.kind != "pool":
             return f"{self.of_element(element.name)}; {displaced(payment.amount)}"
@@ -172,7 +178,7 @@ class Reasons:
         rule = "as much must leave as enters" if leaving else "as much must enter as leaves"
         return f"at pool {element.name} {rule}, and {self.pool_words(element.name, leaving)}; {displaced(payment.amount)}"
 
-    def reason(self, number):
+    def reason(self, number: int) -> Reason | None:
         """Why this line is below its ceiling; None where it isn't."""
         line, quantity = self.question.lines[number - 1], self.quantities[number - 1]
         if quantity >= line.ceiling:

@@ -1,44 +1,54 @@
 """The report as plain text."""
 
-from .day import TIMES
+from collections.abc import Iterable, Iterator
+from typing import TextIO
+
+from certificate import Sums
+
+from .day import TIMES, Day
+from .facts import ElementFact, Facts, LineFact
+from .reasons import Reason
+from .report import Report
+from .texts import Input
+from .verdicts import Verdict
 from .words import CUT_NOTE, CYCLES, PRICE_NOTES, counted, listed, price_in_words
 
 KINDS = {"segment": "segment", "receipt": "receipt point", "delivery": "delivery point", "pool": "pool"}
 MOST_MEMBERS = 20
 
 
-def verdict_rows(verdicts):
+def verdict_rows(verdicts: Iterable[Verdict]) -> list[str]:
     return [f"{'PASS' if verdict.passed else 'FAIL'}  {verdict.by}: {verdict.words}" for verdict in verdicts]
 
 
-def input_rows(inputs):
+def input_rows(inputs: Iterable[Input]) -> list[str]:
     return [f"{file.role:<8} {file.path}  SHA-256 {file.digest()}" for file in inputs]
 
 
-def heading(facts):
+def heading(facts: Facts) -> str:
     cycle = CYCLES.get(facts.cycle, "unknown")
     return f"Book {facts.book}, cycle {facts.cycle} ({cycle}), round {facts.round}"
 
 
-def line_head(line):
+def line_head(line: LineFact) -> str:
     return f"Line {line.number}: {line.origin} to {line.destination}, class {line.class_number}"
 
 
-def reason_rows(reason):
+def reason_rows(reason: Reason) -> list[str]:
     rows = [f"    why: {word}" for word in reason.words]
     if reason.more:
         rows.append(f"    {counted(reason.more, 'more element')} of its route with a price")
     return rows + [f"    {reason.rest}"]
 
 
-def line_rows(line):
+def line_rows(line: LineFact) -> list[str]:
     amounts = f"  floor {line.floor}, ceiling (asked) {line.ceiling}, scheduled {line.scheduled}"
     short = f", short by {line.short}" if line.short else ""
     bumped = f", bumped by {line.bumped}" if line.bumped else ""
     return [line_head(line) + ":" + amounts[1:] + short + bumped] + (reason_rows(line.reason) if line.reason else [])
 
 
-def element_row(element):
+def element_row(element: ElementFact) -> str:
     if element.kind == "pool":
         words = f"{element.load} in and {element.load} out"
     else:
@@ -48,11 +58,11 @@ def element_row(element):
     return f"{KINDS[element.kind]} {element.name}: {words}{price}"
 
 
-def total_rows(facts):
+def total_rows(facts: Facts) -> list[str]:
     return [f"class {number}: {given} of {asked}" for number, asked, given in facts.totals]
 
 
-def schedule_rows(facts):
+def schedule_rows(facts: Facts) -> Iterator[str]:
     yield "Totals, scheduled of asked"
     yield from total_rows(facts)
     yield ""
@@ -66,7 +76,7 @@ def schedule_rows(facts):
     yield from PRICE_NOTES
 
 
-def set_in_words(facts):
+def set_in_words(facts: Facts) -> str:
     words = []
     for kind in ("place", "point", "pool"):
         names = [name for group, name in facts.members if group == kind]
@@ -76,8 +86,8 @@ def set_in_words(facts):
     return "; ".join(words)
 
 
-def cut_rows(facts):
-    leave, back, flow, excess = facts.sums
+def cut_rows(facts: Facts, sums: Sums) -> Iterator[str]:
+    leave, back, flow, excess = sums
     yield f"The set: {set_in_words(facts)}"
     yield ""
     yield f"What must leave it, by the floors of the lines that start inside and end outside: {leave}"
@@ -91,10 +101,10 @@ def cut_rows(facts):
     yield CUT_NOTE
 
 
-def day_rows(day):
+def day_rows(day: Day) -> Iterator[str]:
     yield f"Gas day {day.date}, book {day.book}, by the clock of {day.clock.name}"
     for cycle, times in day.cycles:
-        yield f"  {CYCLES[cycle]}: " + ", ".join(f"{name} {time}" for name, time in zip(TIMES, times))
+        yield f"  {CYCLES[cycle]}: " + ", ".join(f"{name} {time}" for name, time in zip(TIMES, times, strict=False))
     yield ""
     yield "Calls"
     for call in day.calls:
@@ -102,7 +112,7 @@ def day_rows(day):
         yield from (f"      {words}" for words in call.details)
 
 
-def text_of(report):
+def text_of(report: Report) -> Iterator[str]:
     """The whole report; after a FAIL only what was checked and told."""
     yield from verdict_rows(report.verdicts)
     yield ""
@@ -111,11 +121,11 @@ def text_of(report):
     if report.facts:
         yield ""
         yield heading(report.facts)
-        yield from (cut_rows if report.facts.is_cut else schedule_rows)(report.facts)
+        yield from schedule_rows(report.facts) if report.facts.sums is None else cut_rows(report.facts, report.facts.sums)
     if report.day:
         yield ""
         yield from day_rows(report.day)
 
 
-def print_text(report, out):
+def print_text(report: Report, out: TextIO) -> None:
     out.writelines(row + "\n" for row in text_of(report))

@@ -3,7 +3,10 @@
 import csv
 import hashlib
 import io
+from collections.abc import Collection, Iterable
 from typing import NamedTuple
+
+Row = list[str]
 
 ANSWER_KINDS = ("sched", "price", "inside")
 # What else may stand in an answer: the head of what `solve` prints, and a posting's bumped lines.
@@ -22,14 +25,14 @@ class Input(NamedTuple):
     path: str
     data: bytes
 
-    def digest(self):
+    def digest(self) -> str:
         return hashlib.sha256(self.data).hexdigest()
 
-    def rows(self):
+    def rows(self) -> list[Row]:
         return rows_in(self.data, self.path)
 
 
-def read_input(role, path):
+def read_input(role: str, path: str) -> Input:
     try:
         with open(path, "rb") as file:
             return Input(role, path, file.read())
@@ -37,7 +40,7 @@ def read_input(role, path):
         raise Fault(f"{role}: {path} can't be read: {error.strerror}") from None
 
 
-def rows_in(data, name):
+def rows_in(data: bytes, name: str) -> list[Row]:
     """The rows of a text, as lists of eight fields; empty lines are skipped."""
     try:
         text = data.decode("utf-8")
@@ -50,18 +53,18 @@ def rows_in(data, name):
     return rows
 
 
-def written(rows):
+def written(rows: Iterable[Row]) -> bytes:
     """The rows as a text of their own."""
     out = io.StringIO(newline="")
     csv.writer(out, lineterminator="\n").writerows(rows)
     return out.getvalue().encode()
 
 
-def of_kinds(rows, kinds):
+def of_kinds(rows: Iterable[Row], kinds: Collection[str]) -> list[Row]:
     return [row for row in rows if row[0] in kinds]
 
 
-def question_text(question):
+def question_text(question: Input) -> bytes:
     """The bytes of a question, less the rows of an answer where some stand in its text."""
     rows = question.rows()
     if not of_kinds(rows, ANSWER_KINDS + HEAD_KINDS):
@@ -70,7 +73,7 @@ def question_text(question):
     return written(row for row in rows if row[0] not in ANSWER_KINDS + HEAD_KINDS)
 
 
-def number_of(field, name):
+def number_of(field: str, name: str) -> int:
     if not (field.isascii() and field.isdigit() and len(field) <= 18):
         raise Fault(f"{name}: '{field}' is no number")
     return int(field)

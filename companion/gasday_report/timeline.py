@@ -2,24 +2,26 @@
 
 from html import escape
 
+from .day import Call, Day
+
 WIDTH, MARGIN, LANE = 1160, 90, 26
 LANES = ("nominate", "respond", "post", "waive", "freeze", "publish")
 # A `settle` publishes or declares, so it stands with those.
 LANE_OF = {"settle": "publish", "declare": "publish", "skip": "publish"}
 
 
-def lane_of(call):
+def lane_of(call: Call) -> int:
     return LANES.index(LANE_OF.get(call.kind, call.kind))
 
 
-def mark_svg(call, x):
+def mark_svg(call: Call, x: float) -> str:
     y = 20 + lane_of(call) * LANE
     colour = "--bad" if call.refused or call.told.startswith("declared") else "--good" if lane_of(call) == 5 else "--middle"
     title = escape(f"{call.number}: {call.moment}\n{call.asked}\n{call.told}")
     return f'<circle cx="{x:.1f}" cy="{y}" r="5" fill="var({colour})"><title>{title}</title></circle>'
 
 
-def timeline_of(day):
+def timeline_of(day: Day) -> str:
     """The calls in lanes by kind: blue where they were taken, red where refused or where there was no schedule, green
     where a schedule was published or a cycle skipped."""
     moments = [call.seconds for call in day.calls]

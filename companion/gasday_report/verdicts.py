@@ -3,11 +3,13 @@
 import os
 import shutil
 import subprocess
+from collections.abc import Iterable, Sequence
 from pathlib import Path
 from typing import NamedTuple
 
-import certificate
-from .texts import ANSWER_KINDS, Fault, of_kinds, question_text, rows_in, written
+from certificate import Answer, Question, Unreadable, Wrong, verdict_of
+
+from .texts import ANSWER_KINDS, Fault, Input, Row, of_kinds, question_text, rows_in, written
 
 BUILT = Path(__file__).resolve().parents[2] / "crates" / "gasday" / "out" / "gasday"
 SECONDS = 600
@@ -32,16 +34,15 @@ class Verdict(NamedTuple):
     words: str
 
 
-def program_at(path):
+def program_at(path: str | None) -> str:
     """The program to run: the one that is named, else the built one, else the one on the PATH."""
-    found = path or (str(BUILT) if os.access(BUILT, os.X_OK) else "gasday")
-    found = shutil.which(found)
+    found = shutil.which(path or (str(BUILT) if os.access(BUILT, os.X_OK) else "gasday"))
     if not found:
         raise Fault(f"there is no program {path or 'gasday'}; --gasday names one")
     return found
 
 
-def call(program, words, text):
+def call(program: str, words: Sequence[str], text: bytes) -> tuple[bytes, int]:
     """What the program prints, and its exit status."""
     try:
         done = subprocess.run([program, *words], input=text, capture_output=True, timeout=SECONDS)
@@ -52,11 +53,11 @@ def call(program, words, text):
     return done.stdout, done.returncode
 
 
-def is_cut(rows):
+def is_cut(rows: Iterable[Row]) -> bool:
     return bool(of_kinds(rows, ("inside", "cut")))
 
 
-def told_in_words(rows):
+def told_in_words(rows: Sequence[Row]) -> str:
     """What a check told, in words."""
     kind, name, item = rows[0][:3]
     if kind == "broken":
@@ -68,7 +69,7 @@ def told_in_words(rows):
     return "told: " + ",".join(rows[0]).rstrip(",")
 
 
-def claim_verdict(answer, told):
+def claim_verdict(answer: Input, told: Sequence[Row]) -> list[Verdict]:
     """A FAIL where an answer claims what the check doesn't tell; an answer may claim nothing."""
     for row in of_kinds(answer.rows(), ("best", "total", "cut")):
         if row not in told:
@@ -79,7 +80,7 @@ def claim_verdict(answer, told):
     return []
 
 
-def program_verdicts(program, question, answer):
+def program_verdicts(program: str, question: Input, answer: Input) -> list[Verdict]:
     """What `gasday check ..` says of the question with the answer's own rows behind it; after a PASS also whether the
     answer claims as much."""
     rows = answer.rows()
@@ -95,15 +96,16 @@ def program_verdicts(program, question, answer):
     return [Verdict(by, status == 0, told_in_words(told)), *(claim_verdict(answer, told) if status == 0 else [])]
 
 
-def own_verdict(question, answer):
+def own_verdict(question: Input, answer: Input) -> tuple[Verdict, Question, Answer]:
     """What certificate.py says; with the question and the answer that it read."""
     by = "certificate.py"
     try:
-        asked = certificate.Question(question_text(question).decode("utf-8"))
-        given = certificate.Answer(answer.data.decode("utf-8"), asked)
-        given.is_cut = is_cut(answer.rows())
-        return Verdict(by, True, certificate.verdict_of(asked, given)), asked, given
-    except certificate.Unreadable as error:
+        asked = Question(question_text(question).decode("utf-8"))
+        given = Answer(answer.data.decode("utf-8"), asked)
+    except Unreadable as error:
         raise Fault(f"{by}: {error}") from None
-    except certificate.Wrong as wrong:
+    given.is_cut = is_cut(answer.rows())
+    try:
+        return Verdict(by, True, verdict_of(asked, given)), asked, given
+    except Wrong as wrong:
         return Verdict(by, False, wrong.words), asked, given

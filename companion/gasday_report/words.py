@@ -1,6 +1,8 @@
 """Prices and quantities in words."""
 
-from certificate import CLASSES, TENTHS
+from collections.abc import Iterable
+
+from certificate import CLASSES, TENTHS, Words
 
 CYCLES = {1: "Timely", 2: "Evening", 3: "Intraday 1", 4: "Intraday 2", 5: "Intraday 3"}
 
@@ -18,24 +20,24 @@ CUT_NOTE = (
 )
 
 
-def listed(words, joint="and"):
+def listed(words: Iterable[str], joint: str = "and") -> str:
     """Words in a row: a, b and c."""
     words = list(words)
     return f" {joint} ".join([", ".join(words[:-1]), words[-1]]) if len(words) > 1 else "".join(words)
 
 
-def counted(count, one, many=None):
-    return f"{count} {one if count == 1 else many or one + 's'}"
+def counted(count: int, one: str) -> str:
+    return f"{count} {one if count == 1 else one + 's'}"
 
 
-def gas_of(class_number, word, spread):
+def gas_of(class_number: int, word: int, spread: int) -> str:
     """Gas of a class by its word of a price, with its tenth where the spread's word is one dekatherm's."""
     tenth = f" of tenth {-spread}" if word == 1 and -TENTHS <= spread <= -1 else ""
     amount = f"{word} dekatherms of " if word > 1 else ""
     return f"{amount}class {class_number} gas{tenth}"
 
 
-def displaced(amount):
+def displaced(amount: Words) -> str:
     """What a dekatherm that pays so much would displace, and what it would let in."""
     words, spreads = amount[:CLASSES], amount[CLASSES:]
     out = [gas_of(c, word, spreads[c - 1]) for c, word in enumerate(words, 1) if word > 0]
@@ -48,11 +50,11 @@ def displaced(amount):
     return " and ".join(parts)
 
 
-def full(name, load, capacity):
+def full(name: str, load: int, capacity: int) -> str:
     return f"{name} is full, {load} of {capacity}"
 
 
-def price_in_words(price):
+def price_in_words(price: Words) -> str:
     """A price as it stands, class by class."""
     parts = []
     for c in range(1, CLASSES + 1):

@@ -45,18 +45,19 @@ POOL_CUT_ANSWER = "inside,place,A,,,,,\ninside,place,B,,,,,\ninside,point,R1,,,,
 WINTER_PRICES = "price,TRUNK-1,4,1,-8,,,\nprice,TRUNK-1,5,1,-8,,,\nprice,MERGE-POOL,4,1,-8,,,\n"
 
 
-def split(text):
+def split(text: str) -> tuple[str, str]:
     """The rows of a text that are a question's, and those that are an answer's."""
     rows = [row for row in re.split("\r\n|\r|\n", text) if row]
-    parts = [[row for row in rows if (row.split(",")[0] in ANSWER_KINDS) == is_answer] for is_answer in (False, True)]
-    return ["".join(row + "\n" for row in part) for part in parts]
+    question = [row for row in rows if row.split(",")[0] not in ANSWER_KINDS]
+    answer = [row for row in rows if row.split(",")[0] in ANSWER_KINDS]
+    return "".join(row + "\n" for row in question), "".join(row + "\n" for row in answer)
 
 
-def example(name):
+def example(name: str) -> str:
     return (TOP / "examples" / name).read_text()
 
 
-def winter_day():
+def winter_day() -> tuple[str, str]:
     question, schedule = split(example("winter-day.csv"))
     return question, schedule + WINTER_PRICES
 
@@ -64,16 +65,16 @@ def winter_day():
 class ReportTest(unittest.TestCase):
     """Runs the command on texts in a folder, with a fake program that prints what the test says."""
 
-    def setUp(self):
+    def setUp(self) -> None:
         self.folder = tempfile.TemporaryDirectory()
         self.addCleanup(self.folder.cleanup)
 
-    def path(self, name, text):
+    def path(self, name: str, text: str | bytes) -> str:
         path = Path(self.folder.name) / name
         path.write_bytes(text if isinstance(text, bytes) else text.encode())
         return str(path)
 
-    def program(self, told, status=0):
+    def program(self, told: str | bytes, status: int = 0) -> str:
         """A program that tells so whatever it is asked, and keeps its words and its text beside itself."""
         here = self.folder.name
         self.path("told", told)
@@ -81,19 +82,21 @@ class ReportTest(unittest.TestCase):
         os.chmod(path, 0o755)
         return path
 
-    def kept(self, name):
+    def kept(self, name: str) -> str:
         return (Path(self.folder.name) / name).read_text()
 
-    def run_command(self, *words):
+    def run_command(self, *words: str) -> tuple[str, str, object]:
         """Standard output, standard error and the exit status."""
         out, error = io.StringIO(), io.StringIO()
         with contextlib.redirect_stdout(out), contextlib.redirect_stderr(error):
+            status: object
             try:
-                status = main(list(words))
+                status = main(words)
             except SystemExit as ended:
                 status = ended.code
         return out.getvalue(), error.getvalue(), status
 
-    def report(self, question, answer, told, *words, status=0):
+    def report(self, question: str | bytes, answer: str | bytes, told: str | bytes, *words: str,
+               status: int = 0) -> tuple[str, str, object]:
         paths = self.path("question.csv", question), self.path("answer.csv", answer)
         return self.run_command(*paths, "--gasday", self.program(told, status), *words)

@@ -3,6 +3,7 @@ program. Left out are the order of rows, and the program's own limit of a price'
 
 import re
 import unittest
+from pathlib import Path
 
 from helpers import TOP, split
 
@@ -12,16 +13,16 @@ CASES = TOP / "tests" / "cases"
 LEFT_OUT = (r"fault,\d+,Order", "broken,PriceTooLarge")
 
 
-def parts_of(path):
+def parts_of(path: Path) -> dict[str, str]:
     parts = re.split(rb"(?m)^-- ([a-z]+)( escaped)? --\n", path.read_bytes())
     named = {}
-    for name, escaped, data in zip(parts[1::3], parts[2::3], parts[3::3]):
+    for name, escaped, data in zip(parts[1::3], parts[2::3], parts[3::3], strict=True):
         plain = data.replace(b"\n", b"").decode("unicode_escape").encode("latin-1") if escaped else data
         named[name.decode()] = plain.decode("latin-1")
     return named
 
 
-def told(text, is_cut):
+def told(text: str, is_cut: bool) -> list[str]:
     """The first row's fields as the program would tell them; of a text that can't be read only that."""
     try:
         question_text, answer_text = split(text)
@@ -37,7 +38,7 @@ def told(text, is_cut):
 
 
 class Cases(unittest.TestCase):
-    def compare(self, group):
+    def compare(self, group: str) -> None:
         paths, compared = sorted((CASES / group).glob("*.case")), 0
         for path in paths:
             parts = parts_of(path)
@@ -48,10 +49,10 @@ class Cases(unittest.TestCase):
                 compared += 1
         self.assertGreater(compared, len(paths) * 3 // 4)
 
-    def test_check_best(self):
+    def test_check_best(self) -> None:
         self.compare("check-best")
 
-    def test_check_cut(self):
+    def test_check_cut(self) -> None:
         self.compare("check-cut")
 
 

@@ -12,7 +12,7 @@ FILES = ["a book.db", "other.db", "text.csv"]
 
 
 class Completing(unittest.TestCase):
-    def offers(self, *words):
+    def offers(self, *words: str) -> list[str]:
         """What is offered for the last word, in a folder with FILES."""
         with tempfile.TemporaryDirectory() as folder:
             for name in FILES:
@@ -22,7 +22,7 @@ class Completing(unittest.TestCase):
         self.assertEqual((done.stderr, done.returncode), ("", 0))
         return sorted(filter(None, done.stdout.split("\n")))
 
-    def test_commands(self):
+    def test_commands(self) -> None:
         commands = ["audit", "calendar", "check", "day", "migrate", "office", "solve"]
         self.assertEqual(self.offers(""), sorted(["--help", "--version", "help", *commands]))
         self.assertEqual(self.offers("help", ""), commands)
@@ -31,40 +31,40 @@ class Completing(unittest.TestCase):
         self.assertEqual(self.offers("x"), [])
         self.assertEqual(self.offers("help", "solve", ""), [])
 
-    def test_checks(self):
+    def test_checks(self) -> None:
         self.assertEqual(self.offers("check", ""), ["--help", "allowed", "best", "cut"])
         self.assertEqual(self.offers("check", "b"), ["best"])
         self.assertEqual(self.offers("check", "best", ""), ["--help", *FILES])
 
-    def test_commands_that_take_texts(self):
+    def test_commands_that_take_texts(self) -> None:
         for command in ("solve", "calendar", "office"):
             self.assertEqual(self.offers(command, ""), ["--help", *FILES])
             self.assertEqual(self.offers(command, "text.csv", "o"), ["other.db"])
 
-    def test_the_archive_of_a_day(self):
+    def test_the_archive_of_a_day(self) -> None:
         self.assertEqual(self.offers("day", ""), ["--archive", "--help", *FILES])
         self.assertEqual(self.offers("day", "--a"), ["--archive"])
         self.assertEqual(self.offers("day", "--archive", ""), FILES)
         self.assertEqual(self.offers("day", "--archive", "a"), ["a book.db"])
         self.assertEqual(self.offers("day", "--archive", "other.db", "t"), ["text.csv"])
 
-    def test_the_file_of_audit_and_migrate(self):
+    def test_the_file_of_audit_and_migrate(self) -> None:
         for command in ("audit", "migrate"):
             self.assertEqual(self.offers(command, ""), ["--help", *FILES])
             self.assertEqual(self.offers(command, "o"), ["other.db"])
             self.assertEqual(self.offers(command, "--"), ["--help"])
             self.assertEqual(self.offers(command, "other.db", ""), [])
 
-    def test_files_behind_a_redirection(self):
+    def test_files_behind_a_redirection(self) -> None:
         self.assertEqual(self.offers("solve", "<", "t"), ["text.csv"])
         self.assertEqual(self.offers("day", "--archive", "other.db", "<", ""), FILES)
         self.assertEqual(self.offers("<", "t"), ["text.csv"])
 
-    def test_no_word_of_another_command(self):
+    def test_no_word_of_another_command(self) -> None:
         self.assertEqual(self.offers("nonsense", ""), [])
         self.assertEqual(self.offers("--help", ""), [])
 
-    def test_it_is_registered_for_gasday(self):
+    def test_it_is_registered_for_gasday(self) -> None:
         done = subprocess.run(["bash", "-c", 'source "$1"; complete -p gasday', "bash", COMPLETIONS],
                               capture_output=True, text=True, timeout=600)
         self.assertEqual(done.stdout, "complete -F _gasday gasday\n")

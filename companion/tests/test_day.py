@@ -3,17 +3,13 @@
 import json
 import os
 import unittest
+import zoneinfo
 
 from helpers import ReportTest, example
 
 from gasday_report.moments import Clock
 
-try:
-    from zoneinfo import ZoneInfo
-    CENTRAL = ZoneInfo("America/Chicago")
-except (ImportError, KeyError, OSError):
-    CENTRAL = None
-
+HAS_ZONES = "America/Chicago" in zoneinfo.available_timezones()
 EVENTS = example("gas-day/two-cycles.csv")
 REPLIES = """accepted,1,1,1,,,,
 accepted,2,2,2,,,,
@@ -51,7 +47,7 @@ hours,24,0,0,5,9,13,
 
 
 class Days(ReportTest):
-    def two_answers(self, replies):
+    def two_answers(self, replies: str) -> str:
         """A program that tells the replies to `day`, and docs/GUIDE.md's calendar to `calendar`."""
         self.path("calendar-told", CALENDAR)
         self.path("day-told", replies)
@@ -59,11 +55,11 @@ class Days(ReportTest):
         os.chmod(path, 0o755)
         return path
 
-    def day(self, *words, events=EVENTS, replies=REPLIES, told=REPLIES):
+    def day(self, *words: str, events: str = EVENTS, replies: str = REPLIES, told: str = REPLIES) -> tuple[str, str, object]:
         paths = self.path("events.csv", events), self.path("replies.csv", replies)
         return self.run_command("--events", paths[0], "--replies", paths[1], "--gasday", self.two_answers(told), *words)
 
-    def test_the_calls(self):
+    def test_the_calls(self) -> None:
         out, _, status = self.day()
         self.assertEqual(status, 0)
         self.assertIn("PASS  gasday day", out)
@@ -76,24 +72,24 @@ class Days(ReportTest):
         self.assertIn("published as event 10: cycle 2 (Evening), round 2, 50 in class 1 and 50 in class 4 scheduled; 1 line"
                       " bumped\n", out)
 
-    def test_the_cycles(self):
+    def test_the_cycles(self) -> None:
         self.assertIn("Evening: nominations leave 2026-03-08 00:00:00 UTC, received 2026-03-08 00:15:00 UTC", self.day()[0])
 
-    @unittest.skipUnless(CENTRAL, "no time zones are installed")
-    def test_the_local_clock(self):
+    @unittest.skipUnless(HAS_ZONES, "no time zones are installed")
+    def test_the_local_clock(self) -> None:
         self.assertEqual(Clock("America/Chicago").show(1772910900), "2026-03-07 13:15:00 CST")
         self.assertIn("2026-03-07 13:15:00 CST  SHIP nominates 70", self.day("--local", "America/Chicago")[0])
 
-    def test_replies_that_the_program_does_not_tell(self):
+    def test_replies_that_the_program_does_not_tell(self) -> None:
         out, _, status = self.day(replies=REPLIES.replace("bumped,1,20", "bumped,1,19"))
         self.assertEqual(status, 1)
         self.assertIn("FAIL  gasday day: row 25 of the replies is bumped,1,19, and gasday day tells bumped,1,20\n", out)
         self.assertNotIn("Calls", out)
 
-    def test_replies_with_what_an_archive_told(self):
+    def test_replies_with_what_an_archive_told(self) -> None:
         self.assertEqual(self.day(replies=REPLIES + "refused,keep,1,Kept,,,,\n")[2], 0)
 
-    def test_refusals_in_words(self):
+    def test_refusals_in_words(self) -> None:
         head = EVENTS.split("nominate")[0]
         calls = "freeze,1772910900,,,,,,\npublish,1772910900,1,,,,,\ndeclare,1772910900,2,,,,,\n"
         told = "refused,freeze,3,TooEarly,,,,\nrefused,publish,1,NotFrozen,,,,\nrefused,declare,2,StaleRound,1,,,\n"
@@ -104,19 +100,20 @@ class Days(ReportTest):
                       "refused, StaleRound: it answers another round; the current one is 1\n"):
             self.assertIn(words, out)
 
-    def test_faults(self):
-        for words in ({"events": EVENTS.replace("day,", "dey,")}, {"told": "fault,3,BadField,2,,,,\n"},
-                      {"replies": "refused,calendar,2,BadZone,,,,\n", "told": "refused,calendar,2,BadZone,,,,\n"},
-                      {"replies": REPLIES[19:], "told": REPLIES[19:]}):
-            self.assertEqual(self.day(**words)[2], 2, words)
+    def test_faults(self) -> None:
+        no_calendar = "refused,calendar,2,BadZone,,,,\n"
+        self.assertEqual(self.day(events=EVENTS.replace("day,", "dey,"))[2], 2)
+        self.assertEqual(self.day(told="fault,3,BadField,2,,,,\n")[2], 2)
+        for replies in (no_calendar, REPLIES[19:]):
+            self.assertEqual(self.day(replies=replies, told=replies)[2], 2, replies)
 
-    def test_json_and_csv(self):
+    def test_json_and_csv(self) -> None:
         calls = json.loads(self.day("--format", "json")[0])["day"]["calls"]
         self.assertEqual((len(calls), calls[0]["moment"], calls[0]["refused"]), (10, 1772910900, False))
         self.assertEqual(calls[9]["details"], ["line 1: 50 scheduled", "line 2: 50 scheduled", "line 1: bumped by 20"])
         self.assertEqual(self.day("--format", "csv")[0].splitlines()[0], "call,moment,local,kind,refused,asked,told")
 
-    def test_a_page(self):
+    def test_a_page(self) -> None:
         out = self.day("--format", "html")[0]
         self.assertIn("Gas day 2026-03-08, book DEMO", out)
         self.assertEqual(out.count("<circle"), 10)

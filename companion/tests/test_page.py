@@ -5,6 +5,7 @@ import json
 import re
 import unittest
 from html.parser import HTMLParser
+from typing import Any
 from unittest import mock
 
 from helpers import POOL_CUT, POOL_CUT_ANSWER, TWO_LINES, TWO_LINES_ANSWER, TWO_LINES_TOLD, ReportTest, winter_day
@@ -20,34 +21,38 @@ REQUESTS = {"src", "href", "srcset", "action", "data", "background", "poster", "
 class Page(HTMLParser):
     """The tags of a page with their attributes, and the text outside of scripts and styles."""
 
-    def __init__(self, text):
+    def __init__(self, text: str) -> None:
         super().__init__()
-        self.tags, self.words, self.inside = [], [], []
+        self.tags: list[tuple[str, dict[str, str]]] = []
+        self.words: list[str] = []
+        self.inside: list[str] = []
         self.feed(text)
 
-    def handle_starttag(self, tag, attrs):
-        self.tags.append((tag, dict(attrs)))
+    def handle_starttag(self, tag: str, attrs: list[tuple[str, str | None]]) -> None:
+        self.tags.append((tag, {name: value or "" for name, value in attrs}))
         if tag in ("script", "style"):
             self.inside.append(tag)
 
-    def handle_endtag(self, tag):
+    def handle_endtag(self, tag: str) -> None:
         if self.inside and self.inside[-1] == tag:
             self.inside.pop()
 
-    def handle_data(self, data):
+    def handle_data(self, data: str) -> None:
         if not self.inside:
             self.words.append(data)
 
 
-def embedded(text):
-    return json.loads(re.search(r'id="data">(.*?)</script>', text).group(1))
+def embedded(text: str) -> Any:
+    found = re.search(r'id="data">(.*?)</script>', text)
+    assert found, "the page has no data"
+    return json.loads(found.group(1))
 
 
 class Pages(ReportTest):
-    def page(self, question, answer, told, status=0):
+    def page(self, question: str, answer: str, told: str, status: int = 0) -> str:
         return self.report(question, answer, told, "--format", "html", status=status)[0]
 
-    def test_nothing_from_outside(self):
+    def test_nothing_from_outside(self) -> None:
         for words in ((*winter_day(), WINTER_TOLD), (POOL_CUT, POOL_CUT_ANSWER, "cut,60,,,,,,\n")):
             text = self.page(*words)
             for tag, attributes in Page(text).tags:
@@ -56,7 +61,7 @@ class Pages(ReportTest):
             self.assertIsNone(re.search(r"https?:|url\(|@import|fetch\(|XMLHttpRequest|import\(", text))
             self.assertIn("default-src 'none'", text)
 
-    def test_names_are_escaped(self):
+    def test_names_are_escaped(self) -> None:
         """No valid name has such letters, but a fake program lets one pass."""
         spoiled = "<script>x&\"'</script>"
         field = '"' + spoiled.replace('"', '""') + '"'
@@ -71,24 +76,24 @@ class Pages(ReportTest):
         self.assertIn(spoiled, "".join(page.words))
         self.assertEqual(embedded(text)["tables"][0]["rows"][0][1], spoiled)
 
-    def test_verdicts_and_hashes_stand_at_the_top(self):
+    def test_verdicts_and_hashes_stand_at_the_top(self) -> None:
         words = "".join(Page(self.page(*winter_day(), WINTER_TOLD)).words)
         for first, second in (("PASS", "The pipeline"), ("SHA-256", "The pipeline"), ("certificate.py", "The pipeline")):
             self.assertLess(words.index(first), words.index(second))
 
-    def test_lines_of_the_table(self):
+    def test_lines_of_the_table(self) -> None:
         data = embedded(self.page(TWO_LINES, TWO_LINES_ANSWER, TWO_LINES_TOLD))
         lines = data["tables"][0]
         self.assertEqual(lines["rows"][0], [1, "R1", "D1", 1, 0, 80, 80, 0, []])
         self.assertEqual(lines["rows"][1][:8], [2, "R1", "D1", 4, 0, 50, 20, 30])
         self.assertIn("S1 is full, 100 of 100", data["texts"][lines["rows"][1][8][0]])
 
-    def test_bumped_lines_are_marked(self):
+    def test_bumped_lines_are_marked(self) -> None:
         data = embedded(self.page(TWO_LINES, TWO_LINES_ANSWER + "bumped,2,7,,,,,\n", TWO_LINES_TOLD))
         self.assertEqual([row[8] for row in data["tables"][0]["rows"]], [0, 7])
         self.assertEqual([mark["name"] for mark in data["tables"][0]["marks"]], ["short", "bumped"])
 
-    def test_the_picture(self):
+    def test_the_picture(self) -> None:
         text = self.page(*winter_day(), WINTER_TOLD)
         groups = {attributes["data-name"]: attributes["class"] for tag, attributes in Page(text).tags
                   if "data-name" in attributes and not attributes["class"].startswith("label")}
@@ -98,25 +103,25 @@ class Pages(ReportTest):
         self.assertIn("MERGE-POOL", groups)
         self.assertNotIn("too large for a picture", text)
 
-    def test_the_cut_is_marked(self):
+    def test_the_cut_is_marked(self) -> None:
         text = self.page(POOL_CUT, POOL_CUT_ANSWER, "cut,60,,,,,,\n")
         inside = sorted(attributes.get("data-name", "place") for tag, attributes in Page(text).tags
                         if tag == "g" and "inside" in attributes["class"])
         self.assertEqual(inside, ["D1", "R1", "place", "place"])
 
-    def test_a_fail_shows_no_table(self):
+    def test_a_fail_shows_no_table(self) -> None:
         text = self.page(TWO_LINES, TWO_LINES_ANSWER, "broken,Shape,,,,,,\n", status=1)
         self.assertIn("FAIL", text)
         self.assertNotIn("<script", text)
 
-    def test_a_large_pipeline_is_drawn_in_part(self):
+    def test_a_large_pipeline_is_drawn_in_part(self) -> None:
         """A chain of 100 places whose gas enters at place 60: the part must hold where it flows."""
         rows = [f"segment,S{k},L{k},L{k + 1},9,,,\n" for k in range(99)]
         rows += ["point,R1,receipt,L60,OP,9,,\n", "point,D1,delivery,L99,OP,9,,\n", "question,CHAIN,1,1,,,,\n"]
         rows.append("line,R1,D1,1,0,5,,\n")
         text = self.page("".join(rows), "sched,1,5,,,,,\n", "best,,,,,,,\ntotal,1,5,,,,,\n")
         self.assertIn(f"{PART_PLACES} of 100 places with 1 of 2 points and pools", text)
-        places = [word for word in re.findall(r"<title>place (L\d+)</title>", text)]
+        places = re.findall(r"<title>place (L\d+)</title>", text)
         self.assertEqual(len(places), PART_PLACES)
         self.assertIn("L60", places)
         self.assertGreater(100, MOST_PLACES)
@@ -124,10 +129,10 @@ class Pages(ReportTest):
 
 
 class Layouts(unittest.TestCase):
-    NODES = [Node("a", 60, 26), Node("b", 60, 26), Node("c", 60, 26), Node("d", 60, 26), Node("pool", 60, 32, "b")]
-    EDGES = [Edge("a", "b", 5), Edge("b", "c", 5), Edge("b", "d", 5), Edge("b", "pool", 0)]
+    NODES = (Node("a", 60, 26), Node("b", 60, 26), Node("c", 60, 26), Node("d", 60, 26), Node("pool", 60, 32, "b"))
+    EDGES = (Edge("a", "b", 5), Edge("b", "c", 5), Edge("b", "d", 5), Edge("b", "pool", 0))
 
-    def test_plain_layers_follow_the_gas(self):
+    def test_plain_layers_follow_the_gas(self) -> None:
         places = plain(self.NODES, self.EDGES).nodes
         x = {key: place[0] for key, place in places.items()}
         self.assertTrue(x["a"] < x["b"] < x["c"] == x["d"] and x["pool"] == x["b"])
@@ -135,13 +140,13 @@ class Layouts(unittest.TestCase):
             for other in places.values():
                 self.assertTrue(one == other or abs(one[0] - other[0]) >= 60 or abs(one[1] - other[1]) >= 32)
 
-    def test_plain_stands_in_where_there_is_no_dot(self):
+    def test_plain_stands_in_where_there_is_no_dot(self) -> None:
         with mock.patch("shutil.which", return_value=None):
             made = layout.laid_out(self.NODES, self.EDGES)
         self.assertFalse(made.by_dot)
         self.assertEqual(set(made.nodes), {"a", "b", "c", "d", "pool"})
 
-    def test_what_dot_prints(self):
+    def test_what_dot_prints(self) -> None:
         """Inches from below become 72 to an inch from above."""
         text = ("graph 1 3 2\nnode n0 0.5 1.5 0.8 0.4 \"\" solid box black lightgrey\n"
                 "node n1 2.5 0.5 0.8 0.4 \"\" solid box black lightgrey\n"

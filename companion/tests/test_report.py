@@ -5,9 +5,9 @@ import hashlib
 import io
 import json
 import unittest
+from typing import Any
 
-from helpers import (POOL_CUT, POOL_CUT_ANSWER, TWO_LINES, TWO_LINES_ANSWER, TWO_LINES_TOLD, ReportTest, example, split,
-                     winter_day)
+from helpers import POOL_CUT, POOL_CUT_ANSWER, TWO_LINES, TWO_LINES_ANSWER, TWO_LINES_TOLD, ReportTest, example, split, winter_day
 
 # As examples/README.md has it.
 WINTER_TOLD = "best,,,,,,,\n" + "".join(
@@ -15,7 +15,7 @@ WINTER_TOLD = "best,,,,,,,\n" + "".join(
 
 
 class Verdicts(ReportTest):
-    def test_a_pass(self):
+    def test_a_pass(self) -> None:
         out, _, status = self.report(TWO_LINES, TWO_LINES_ANSWER, TWO_LINES_TOLD)
         self.assertEqual(status, 0)
         self.assertIn("PASS  gasday check best", out)
@@ -23,16 +23,16 @@ class Verdicts(ReportTest):
         for text in (TWO_LINES, TWO_LINES_ANSWER):
             self.assertIn(hashlib.sha256(text.encode()).hexdigest(), out)
 
-    def test_what_the_program_is_asked(self):
+    def test_what_the_program_is_asked(self) -> None:
         """The question as it stands with the answer's own rows behind it, and nothing else of the answer."""
         self.report(TWO_LINES, TWO_LINES_TOLD + TWO_LINES_ANSWER + "bumped,2,5,,,,,\n", TWO_LINES_TOLD)
         self.assertEqual((self.kept("words"), self.kept("text")), ("check best\n", TWO_LINES + TWO_LINES_ANSWER))
 
-    def test_a_set_is_given_to_check_cut(self):
+    def test_a_set_is_given_to_check_cut(self) -> None:
         self.report(POOL_CUT, "cut,60,,,,,,\n" + POOL_CUT_ANSWER, "cut,60,,,,,,\n")
         self.assertEqual((self.kept("words"), self.kept("text")), ("check cut\n", POOL_CUT + POOL_CUT_ANSWER))
 
-    def test_a_fail_explains_nothing(self):
+    def test_a_fail_explains_nothing(self) -> None:
         answer = TWO_LINES_ANSWER.replace("price,S1,4,1,-4,,,\n", "")
         out, _, status = self.report(TWO_LINES, answer, "broken,Underfilled,2,,,,,\n", status=1)
         self.assertEqual(status, 1)
@@ -40,40 +40,41 @@ class Verdicts(ReportTest):
         self.assertIn("FAIL  certificate.py: line 2 is below its ceiling", out)
         self.assertNotIn("Lines", out)
 
-    def test_two_checks_that_differ_are_a_fail(self):
+    def test_two_checks_that_differ_are_a_fail(self) -> None:
         answer = TWO_LINES_ANSWER.replace("price,S1,4,1,-4,,,\n", "")
         out, _, status = self.report(TWO_LINES, answer, TWO_LINES_TOLD)
         self.assertEqual(status, 1)
         self.assertIn("PASS  gasday check best", out)
         self.assertNotIn("Lines", out)
 
-    def test_totals_that_the_check_does_not_tell(self):
+    def test_totals_that_the_check_does_not_tell(self) -> None:
         claimed = TWO_LINES_TOLD.replace("total,4,20", "total,4,21")
         out, _, status = self.report(TWO_LINES, claimed + TWO_LINES_ANSWER, TWO_LINES_TOLD)
         self.assertEqual(status, 1)
         self.assertIn("PASS  gasday check best", out)
         self.assertIn("FAIL  the answer's own claim: the answer says total,4,21 where the check tells total,4,20\n", out)
 
-    def test_an_excess_that_the_check_does_not_tell(self):
+    def test_an_excess_that_the_check_does_not_tell(self) -> None:
         self.assertEqual(self.report(POOL_CUT, "cut,61,,,,,,\n" + POOL_CUT_ANSWER, "cut,60,,,,,,\n")[2], 1)
 
-    def test_faults(self):
+    def test_faults(self) -> None:
         for told, status in (("fault,5,BadField,4,,,,\n", 2), ("", 0), ("best,,,,,,,\n", 1), ("cut,1,,,,,,\n", 0)):
             _, error, ended = self.report(TWO_LINES, TWO_LINES_ANSWER, told, status=status)
             self.assertEqual((ended, error[:14]), (2, "gasday-report:"), told)
 
-    def test_texts_that_can_not_be_read(self):
-        for question, answer in ((TWO_LINES, "sched,1,80\n"), (TWO_LINES, "fault,3,Order,,,,,\n"), (b"\xff\xfe", TWO_LINES_ANSWER), (TWO_LINES, "sched,1,x,,,,,\n")):
-            self.assertEqual(self.report(question, answer, TWO_LINES_TOLD)[2], 2)
+    def test_texts_that_can_not_be_read(self) -> None:
+        for answer in ("sched,1,80\n", "fault,3,Order,,,,,\n", "sched,1,x,,,,,\n"):
+            self.assertEqual(self.report(TWO_LINES, answer, TWO_LINES_TOLD)[2], 2)
+        self.assertEqual(self.report(b"\xff\xfe", TWO_LINES_ANSWER, TWO_LINES_TOLD)[2], 2)
 
-    def test_usage(self):
+    def test_usage(self) -> None:
         path = self.path("question.csv", TWO_LINES)
         for words in ((), (path,), (path, path, "--table", "lines"), ("--events", path), (path, path, "--format", "pdf"),
                       (path, path, "--format", "csv", "--table", "calls"), (path, path, "--gasday", "/dev/null/none"),
                       (path, path + "x", "--gasday", self.program("")), (path, path, "--local", "Moon/Base")):
             self.assertEqual(self.run_command(*words)[2], 2, words)
 
-    def test_a_question_that_holds_an_answer(self):
+    def test_a_question_that_holds_an_answer(self) -> None:
         text = example("two-lines-priced.csv")
         out, _, status = self.report(text, text, TWO_LINES_TOLD)
         self.assertEqual((status, self.kept("text")), (0, "".join(split(text))))
@@ -81,10 +82,10 @@ class Verdicts(ReportTest):
 
 
 class Texts(ReportTest):
-    def winter(self, *words):
+    def winter(self, *words: str) -> str:
         return self.report(*winter_day(), WINTER_TOLD, *words)[0]
 
-    def test_a_line_and_its_reason(self):
+    def test_a_line_and_its_reason(self) -> None:
         out = self.report(TWO_LINES, TWO_LINES_ANSWER, TWO_LINES_TOLD)[0]
         self.assertIn("Line 1: R1 to D1, class 1: floor 0, ceiling (asked) 80, scheduled 80\n", out)
         self.assertIn("Line 2: R1 to D1, class 4: floor 0, ceiling (asked) 50, scheduled 20, short by 30\n"
@@ -93,29 +94,29 @@ class Texts(ReportTest):
         self.assertIn("segment S1: 100 of 100, room 0 (full); price class 4: 1 and -4 in the spread\n", out)
         self.assertIn("receipt point R1: 100 of 1000, room 900\n", out)
 
-    def test_a_reason_is_traced_through_a_pool(self):
+    def test_a_reason_is_traced_through_a_pool(self) -> None:
         out = self.winter()
         self.assertIn("why: at pool MERGE-POOL as much must leave as enters, and more could leave it only where TRUNK-1 is"
                       " full, 80000 of 80000; class 4 gas of tenth 8 would be displaced\n", out)
         self.assertIn("pool MERGE-POOL: 16751 in and 16751 out; price class 4: 1 and -8 in the spread\n", out)
 
-    def test_what_a_line_gets_back(self):
+    def test_what_a_line_gets_back(self) -> None:
         self.assertIn("in return, at MERGE-POOL, class 4 gas of tenth 8 would be let in\n", self.winter())
 
-    def test_notes(self):
+    def test_notes(self) -> None:
         out = self.winter()
         for words in ("Prices are not unique", "a shadow price and no money", "the tenths decide"):
             self.assertIn(words, out)
 
-    def test_bumped_lines(self):
+    def test_bumped_lines(self) -> None:
         out = self.report(TWO_LINES, TWO_LINES_ANSWER + "bumped,2,7,,,,,\n", TWO_LINES_TOLD)[0]
         self.assertIn("scheduled 20, short by 30, bumped by 7\n", out)
         self.assertIn("neither check looks at it", out)
 
-    def test_a_bumped_line_that_is_not_there(self):
+    def test_a_bumped_line_that_is_not_there(self) -> None:
         self.assertEqual(self.report(TWO_LINES, TWO_LINES_ANSWER + "bumped,3,7,,,,,\n", TWO_LINES_TOLD)[2], 2)
 
-    def test_a_cut(self):
+    def test_a_cut(self) -> None:
         out, _, status = self.report(POOL_CUT, POOL_CUT_ANSWER, "cut,60,,,,,,\n")
         self.assertEqual(status, 0)
         for words in ("The set: places A and B; points R1 and D1\n", "start inside and end outside: 100\n  Line 1: R1 to P1",
@@ -123,14 +124,14 @@ class Texts(ReportTest):
                       "not a reduction of anybody's gas"):
             self.assertIn(words, out)
 
-    def test_a_pool_that_nothing_leaves_any_more(self):
+    def test_a_pool_that_nothing_leaves_any_more(self) -> None:
         """Line 2 takes all that it asked for out of the pool, so line 1 can't bring more: the pool's price is its worth."""
         question = POOL_CUT.replace("line,R1,P1,1,100,100", "line,R1,P1,1,0,100")
         answer = "sched,1,40,,,,,\nsched,2,40,,,,,\nprice,P1,1,1,-5,,,\n"
         out = self.report(question, answer, "best,,,,,,,\ntotal,1,80,,,,,\n")[0]
         self.assertIn("1 line out of P1, all at the ceiling, so no more can leave it", out)
 
-    def test_a_pool_into_which_no_more_is_brought(self):
+    def test_a_pool_into_which_no_more_is_brought(self) -> None:
         """Line 1 brings all its 30, so line 2 can't take more: taking out of the pool costs what its dekatherm is worth."""
         question = POOL_CUT.replace("line,R1,P1,1,100,100", "line,R1,P1,1,0,30").replace("line,P1,D1,1,40", "line,P1,D1,1,0")
         answer = "sched,1,30,,,,,\nsched,2,30,,,,,\nprice,P1,1,-1,8,,,\n"
@@ -140,19 +141,19 @@ class Texts(ReportTest):
 
 
 class Tables(ReportTest):
-    def table(self, question, answer, told, *words):
+    def table(self, question: str, answer: str, told: str, *words: str) -> list[dict[str, str]]:
         out, error, status = self.report(question, answer, told, "--format", "csv", *words)
         self.assertEqual((status, error[:4]), (0, "PASS"))
         return list(csv.DictReader(io.StringIO(out)))
 
-    def test_lines(self):
+    def test_lines(self) -> None:
         rows = self.table(TWO_LINES, TWO_LINES_ANSWER, TWO_LINES_TOLD)
         self.assertEqual([row["scheduled"] for row in rows], ["80", "20"])
         want = {"line": "2", "origin": "R1", "destination": "D1", "class": "4", "floor": "0", "ceiling": "50", "short": "30",
                 "bumped": "", "reason_elements": "S1", "cut_way": "", "cut_quantity": ""}
         self.assertEqual({name: rows[1][name] for name in want}, want)
 
-    def test_elements(self):
+    def test_elements(self) -> None:
         rows = self.table(TWO_LINES, TWO_LINES_ANSWER, TWO_LINES_TOLD, "--table", "elements")
         self.assertEqual([row["element"] for row in rows], ["S1", "R1", "D1"])
         want = {"kind": "segment", "from": "A", "to": "B", "operator": "", "capacity": "100", "load": "100", "room": "0",
@@ -160,22 +161,22 @@ class Tables(ReportTest):
         self.assertEqual({name: rows[0][name] for name in want}, want)
         self.assertEqual((rows[1]["operator"], rows[1]["price_4"], rows[1]["full"]), ("OPR", "", "0"))
 
-    def test_a_cut(self):
+    def test_a_cut(self) -> None:
         rows = self.table(POOL_CUT, POOL_CUT_ANSWER, "cut,60,,,,,,\n")
         self.assertEqual([(row["cut_way"], row["cut_quantity"]) for row in rows], [("out", "100"), ("in", "40")])
         rows = self.table(POOL_CUT, POOL_CUT_ANSWER, "cut,60,,,,,,\n", "--table", "elements")
         self.assertEqual([(row["element"], row["inside"]) for row in rows], [("S1", ""), ("R1", "1"), ("D1", "1"), ("P1", "0")])
 
-    def test_nothing_after_a_fail(self):
+    def test_nothing_after_a_fail(self) -> None:
         out, error, status = self.report(TWO_LINES, TWO_LINES_ANSWER, "broken,Shape,,,,,,\n", "--format", "csv", status=1)
         self.assertEqual((out, error[:4], status), ("", "FAIL", 1))
 
 
 class Json(ReportTest):
-    def whole(self, question, answer, told, status=0):
+    def whole(self, question: str, answer: str, told: str, status: int = 0) -> Any:
         return json.loads(self.report(question, answer, told, "--format", "json", status=status)[0])
 
-    def test_a_schedule(self):
+    def test_a_schedule(self) -> None:
         whole = self.whole(TWO_LINES, TWO_LINES_ANSWER, TWO_LINES_TOLD)
         self.assertEqual((whole["report"], whole["version"]), ("gasday-report", 1))
         self.assertEqual((whole["passed"], whole["kind"]), (True, "best"))
@@ -188,12 +189,12 @@ class Json(ReportTest):
         self.assertEqual(whole["elements"][0]["price"], price)
         self.assertEqual(whole["inputs"][0]["sha256"], hashlib.sha256(TWO_LINES.encode()).hexdigest())
 
-    def test_a_cut(self):
+    def test_a_cut(self) -> None:
         cut = self.whole(POOL_CUT, POOL_CUT_ANSWER, "cut,60,,,,,,\n")["cut"]
         self.assertEqual((cut["excess"], cut["must_leave"], cut["can_return"], cut["can_flow"]), (60, 100, 40, 0))
         self.assertEqual(cut["members"][0], {"kind": "place", "name": "A"})
 
-    def test_a_fail(self):
+    def test_a_fail(self) -> None:
         whole = self.whole(TWO_LINES, TWO_LINES_ANSWER, "broken,Overfilled,2,,,,,\n", status=1)
         self.assertEqual((whole["passed"], "lines" in whole), (False, False))
 

@@ -1,6 +1,6 @@
 //! The texts of help: a short one for `-h`, a long one for `--help`.
 //!
-//! They say what the manual says (man/gasday.1).
+//! The manual (man/gasday.1) is made of the long ones and of its own sections.
 
 /// What stands under the help of the program.
 pub(crate) const SHORT: &str = "With no command it does what 'check allowed' does.

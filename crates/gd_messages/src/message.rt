@@ -57,35 +57,16 @@ fn told_of_damaged(alloc: Global, book: Name, cycle: u64) -> Result<String, Allo
     )
 }
 
-/// What is told of a receipt that doesn't fit its book's history: one of a session, or, of list 0, one of the desk.
-fn told_of_mismatch(alloc: Global, slot: u64, list: u64, index: u64) -> Result<String, AllocError> {
-    if list == 0 {
-        format!(in alloc;
-            "receipt {index} of the desk of slot {slot} doesn't fit the history of its book"
-        )
-    } else {
-        format!(in alloc;
-            "receipt {index} of session {list} doesn't fit the history of the book of slot {slot}"
-        )
-    }
-}
-
-/// What is told of a slot whose sessions can't be closed.
-fn told_of_open(alloc: Global, slot: u64, count: u64) -> Result<String, AllocError> {
-    format!(in alloc;
-        "slot {slot} can't be closed: {count} of its open sessions are not among those handed in"
-    )
-}
-
 /// What is told of a row by itself, without a look at the text; `None` where nothing is to be said of it.
 fn words_of(reply: &Reply) -> Option<&'static str> {
     match reply {
         Reply::Inside(..) | Reply::Cut(_) => Some(
             "no schedule is allowed: more has to leave the set that the inside rows name than can, by the excess in the cut row",
         ),
-        Reply::Reconciled { .. } => {
-            Some("a slot is not reconciled: a mismatch or refused row above tells which")
-        }
+        // Nothing of a text leads to these.
+        Reply::Reconciled { .. } | Reply::Mismatch { .. } | Reply::Missing { .. } => Some(
+            "a slot is not reconciled, as the rows tell; keep the text, and tell who maintains the program",
+        ),
         Reply::NoThread => Some("no thread could be started for a session"),
         Reply::TooMany => Some("a slot takes no more sessions at a time"),
         Reply::Kept => Some(
@@ -104,8 +85,6 @@ fn words_of(reply: &Reply) -> Option<&'static str> {
         Reply::Fault(_)
         | Reply::OutOfRange
         | Reply::BadZone
-        | Reply::Mismatch { .. }
-        | Reply::Missing { .. }
         | Reply::Damaged { .. }
         | Reply::Unsound { .. }
         | Reply::Shape
@@ -155,8 +134,6 @@ pub fn message_of(source: Source<'_>, reply: &Reply) -> Result<Option<String>, A
     let told = match *reply {
         Reply::Fault(fault) => told_of_fault(source, fault),
         Reply::OutOfRange | Reply::BadZone => told_of_no_calendar(source, reply),
-        Reply::Mismatch { slot, list, index } => told_of_mismatch(alloc, slot, list, index),
-        Reply::Missing { slot, count } => told_of_open(alloc, slot, count),
         Reply::Damaged { book, cycle } => told_of_damaged(alloc, book, cycle),
         Reply::Unsound { book, cycle, fault } => told_of_unsound(alloc, book, cycle, fault),
         Reply::Shape

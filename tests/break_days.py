@@ -1,5 +1,5 @@
 #!/usr/bin/env python3
-"""broken-days PROGRAM
+"""break_days.py PROGRAM
 
 Gives PROGRAM, the built `gasday`, broken texts of gas days: the days of the examples and of the acceptance cases cut after
 each byte, with each row in every other place, left out, twice, with a field too few or too many, of an unknown kind, and

@@ -1,5 +1,5 @@
 #!/usr/bin/env python3
-"""proposals PROGRAM TRIAL
+"""check_proposals.py PROGRAM TRIAL
 
 Tests what no contract says of the solver's proposals: that they are right, and that the answer is right without them.
 PROGRAM is the built `gasday`, TRIAL the built `gd_proposals`.
@@ -278,7 +278,7 @@ def cases(program, trial, mode, folder):
     stand_in = Path(folder) / mode
     stand_in.write_text(STAND_IN.format(program=program, trial=trial, mode=mode))
     stand_in.chmod(0o755)
-    done = subprocess.run([HERE / "cases" / "run", stand_in, "solve"], stdout=subprocess.PIPE, text=True)
+    done = subprocess.run([HERE / "cases" / "run.py", stand_in, "solve"], stdout=subprocess.PIPE, text=True)
     lines = done.stdout.splitlines()
     for line in lines[:-1]:
         print(f"{mode}: {line}")

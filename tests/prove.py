@@ -1,5 +1,5 @@
 #!/usr/bin/env python3
-"""prove [--progress] FOLDER [CRATE ..]
+"""prove.py [--progress] FOLDER [CRATE ..]
 
 Lays a copy of the repository's crates without their must-fail edits into FOLDER, which must be empty or missing, and runs `rt ci`
 there: each crate is proved from nothing with its tests, and programs and tests are built and run. With names only these crates

@@ -1,6 +1,3 @@
-"""The script of the HTML page: tables of one page of rows at a time, which the reader sorts and filters."""
-
-SCRIPT = """
 'use strict';
 const PAGE = 100;
 const data = JSON.parse(document.getElementById('data').textContent);
@@ -118,7 +115,7 @@ class Table {
     const of = String(rows.length) + (rows.length < this.rows.length ? ' (of ' + this.rows.length + ')' : '');
     this.where.textContent = shown.length ? first + 1 + ' to ' + (first + shown.length) + ' of ' + of : 'none';
     this.heads.forEach((cell, at) => {
-      cell.firstChild.textContent = this.columns[at].title + (at === this.order ? (this.down ? ' \\u25be' : ' \\u25b4') : '');
+      cell.firstChild.textContent = this.columns[at].title + (at === this.order ? (this.down ? ' \u25be' : ' \u25b4') : '');
       cell.setAttribute('aria-sort', at !== this.order ? 'none' : this.down ? 'descending' : 'ascending');
     });
     this.body.replaceChildren(...shown.map(row => this.line(row)));
@@ -158,4 +155,3 @@ for (const part of document.querySelectorAll('svg [data-name]')) {
     table.home.scrollIntoView({behavior: 'smooth', block: 'center'});
   });
 }
-"""

@@ -1,5 +1,5 @@
 #!/usr/bin/env python3
-"""edits [--libraries FOLDER [--beside LOG]] [--root FOLDER] [CRATE ..]
+"""try_edits.py [--libraries FOLDER [--beside LOG]] [--root FOLDER] [CRATE ..]
 
 Tries the must-fail edits of the crates that are named, or of all: each must be refused by a goal or an answer of a function
 that it turns. Those of a crate that stand in bodies of different functions are tried together, in one check of a copy of the

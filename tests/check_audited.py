@@ -1,5 +1,5 @@
 #!/usr/bin/env python3
-"""audited [--list [PATH | COMMAND..]]
+"""check_audited.py [--list [PATH | COMMAND..]]
 
 Finds the files of definitions that the statements of six paths reach (below: PATHS), and compares them with `docs/AUDIT.md`:
 each file that is reached stands there exactly once, with the paths that reach it, in the section of the first of them; each

@@ -1,5 +1,5 @@
 #!/usr/bin/env python3
-"""release [--dirty] PROGRAM GATE_LOG FOLDER
+"""make_release.py [--dirty] PROGRAM GATE_LOG FOLDER
 
 Makes FOLDER/gasday-COMMIT.tar.gz of this tree, and its SHA-256 beside it. PROGRAM is the built `gasday`, GATE_LOG what
 `tests/run` told at that commit: that both belong to it is for the caller to see to.
@@ -27,6 +27,7 @@ from pathlib import Path
 TOP = Path(__file__).resolve().parents[1]
 FOLDERS = ("man", "completions", "examples", "companion", "docs")
 TRIAL = "examples/two-lines.csv"
+ANSWERED = "examples/two-lines-priced.csv"
 
 INSTALL = """#!/bin/sh
 # install PREFIX
@@ -49,10 +50,14 @@ put() {
 }
 
 put 755 bin gasday gasday
-for tool in "$here"/companion/*; do
-    if [ -f "$tool" ] && [ -x "$tool" ]; then
-        name=${tool##*/}
-        put 755 bin "$name" "companion/$name"
+# The companion's commands find their modules beside themselves, so what stands in bin are links to them.
+for file in "$here"/companion/*.py "$here"/companion/gasday-* "$here"/companion/gasday_*/*; do
+    if [ -f "$file" ]; then
+        name=${file#"$here/companion/"}
+        mode=644
+        [ ! -x "$file" ] || mode=755
+        put "$mode" "$(dirname "share/gasday/$name")" "${name##*/}" "companion/$name"
+        [ "$mode" = 644 ] || ln -sf "../share/gasday/$name" "$prefix/bin/$name"
     fi
 done
 put 644 share/man/man1 gasday.1 man/gasday.1
@@ -106,11 +111,17 @@ def try_out(archive, folder):
         prefix = Path(scratch) / "a prefix"
         subprocess.run(["tar", "-xzf", archive, "-C", scratch], check=True)
         subprocess.run([Path(scratch) / folder / "install", prefix], check=True, env=environment)
-        with open(prefix / "share/doc/gasday" / TRIAL, "rb") as text:
-            done = subprocess.run([prefix / "bin/gasday", "check", "allowed"], stdin=text, stdout=subprocess.PIPE,
-                                  env=environment)
-    if done.returncode != 0 or not done.stdout.startswith(b"allowed,,,,,,,\n"):
-        raise Refused(f"what was installed doesn't pass {TRIAL}: status {done.returncode}")
+        program, examples = prefix / "bin/gasday", prefix / "share/doc/gasday"
+        text, answer = (examples / TRIAL).read_bytes(), examples / ANSWERED
+
+        def runs(told, words, text=b""):
+            done = subprocess.run(words, input=text, stdout=subprocess.PIPE, env=environment, cwd=scratch)
+            if done.returncode != 0 or not done.stdout.startswith(told):
+                raise Refused(f"what was installed doesn't run: {words[0]} ends with status {done.returncode}")
+
+        runs(b"allowed,,,,,,,\n", [program, "check", "allowed"], text)
+        runs(text, [sys.executable, prefix / "bin/gasday-import", "--strict"], text)
+        runs(b"PASS  gasday check best", [sys.executable, prefix / "bin/gasday-report", answer, answer, "--gasday", program])
 
 
 def release(options):

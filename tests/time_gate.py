@@ -1,5 +1,5 @@
 #!/usr/bin/env python3
-"""gate-times FOLDER STOP
+"""time_gate.py FOLDER STOP
 
 Samples the processes of the gate that runs below FOLDER until the file STOP is there, and then prints the processor time that
 each crate took, in seconds: its proof, its tests and its edits, the longest crate first; then what the scripts took that hand

@@ -1,11 +1,11 @@
 #!/usr/bin/env python3
-"""compare-with-zoneinfo COMMAND
+"""compare_with_zoneinfo.py COMMAND
 
 Runs 'COMMAND calendar' for every gas day from 2016-04-02 to 2099-12-31 in the zone
 CST6CDT,M3.2.0,M11.1.0, and compares each row with the moments that Python's zoneinfo gives the same
 times of the clock in America/Chicago, which has followed this rule since 2007:
 
-    tests/compare-with-zoneinfo crates/gasday/out/gasday
+    tests/compare_with_zoneinfo.py crates/gasday/out/gasday
 
 The times of the clock are written here once more, from NAESB WGQ 1.3.2. A day that differs is
 printed with both answers. The last line is 'N passed, M failed', counted in gas days, and the exit

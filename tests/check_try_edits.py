@@ -1,17 +1,18 @@
 #!/usr/bin/env python3
-"""edits-trial
+"""check_try_edits.py
 
-Tries `tests/edits` on a crate that is made here: an edit that turns nothing, the same hidden behind another, one that is hidden, one that
+Tries `tests/try_edits.py` on a crate that is made here: an edit that turns nothing, the same hidden behind another, one that is hidden, one that
 doesn't compile, one that can't be applied, two in one function, and two of definitions; and looks at what it makes of lines
 that a check may say. The last line is 'N passed, M failed', and the exit status is 0 only where none failed.
 """
 
-import importlib.machinery
-import importlib.util
 import subprocess
 import sys
 import tempfile
 from pathlib import Path
+
+sys.dont_write_bytecode = True
+import try_edits
 
 TOP = Path(__file__).resolve().parent.parent
 
@@ -112,7 +113,7 @@ def lay(folder):
 def of_edits(folder):
     """What is wrong with what is told of the edits."""
     lay(folder)
-    ran = subprocess.run([TOP / "tests/edits", "--root", folder], stdin=subprocess.DEVNULL, stdout=subprocess.PIPE, text=True)
+    ran = subprocess.run([TOP / "tests/try_edits.py", "--root", folder], stdin=subprocess.DEVNULL, stdout=subprocess.PIPE, text=True)
     told = dict(line.split(": ", 1) for line in ran.stdout.splitlines() if line.startswith("tried/"))
     faults = [f"{name}: {told.get(f'tried/{name}.edit', 'nothing is told')}, and not {wanted}"
               for name, (*_, wanted) in EDITS.items() if not told.get(f"tried/{name}.edit", "").startswith(wanted)]
@@ -125,13 +126,9 @@ def of_edits(folder):
 
 def of_lines():
     """What is wrong with how lines of a check are read."""
-    loader = importlib.machinery.SourceFileLoader("edits", str(TOP / "tests/edits"))
-    module = importlib.util.module_from_spec(importlib.util.spec_from_loader("edits", loader))
-    sys.modules["edits"] = module
-    loader.exec_module(module)
-    function, faults = module.Function("tried", "next"), []
+    function, faults = try_edits.Function("tried", "next"), []
     for line, wanted in LINES.items():
-        said = module.Said(line + "\nonly=1 holes=0\n")
+        said = try_edits.Said(line + "\nonly=1 holes=0\n")
         found = bool(said.refusal(function)), said.is_hidden(function), said.is_read(function)
         if found != wanted:
             faults.append(f"{line}: {found}, and not {wanted}")

@@ -1,5 +1,5 @@
 #!/usr/bin/env python3
-"""archives PROGRAM
+"""spoil_archives.py PROGRAM
 
 Spoils archives, and runs PROGRAM, the built `gasday`, on them: cut off behind each 512th byte, with a byte of a kept body or of
 the file changed, with another schema, read-only, in a folder that can't be written, on a disk that is full when the log is to be

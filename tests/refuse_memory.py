@@ -1,5 +1,5 @@
 #!/usr/bin/env python3
-"""memory PROGRAM TRIAL OFFICE_TRIAL
+"""refuse_memory.py PROGRAM TRIAL OFFICE_TRIAL
 
 Refuses each allocation of PROGRAM, the built `gasday`, in turn, over a text for each command: it has to print its whole
 answer, or rows at the front of it and perhaps `fault,0,OutOfMemory` (or, for an office, `fault,0,NoThread`), with status 2.
@@ -15,8 +15,8 @@ frozen; where no desk is handed back, each slot as it was or as with ample memor
 The commands with an archive are run once more on the file that they left, with ample memory. What was kept or carried over
 has to be there whole, and what was told as refused not at all.
 
-A library that is loaded before the C library refuses the allocation. It takes a C compiler, as `cc`. The last line is
-'N passed, M failed', and the exit status is 0 only where none failed.
+A library that is loaded before the C library refuses the allocation: refuse_memory.c, which takes a C compiler, as `cc`. The last
+line is 'N passed, M failed', and the exit status is 0 only where none failed.
 """
 
 import os
@@ -27,75 +27,8 @@ import tempfile
 from concurrent.futures import ThreadPoolExecutor
 from pathlib import Path
 
-# Counts allocations, and refuses the one of the number REFUSED.
-REFUSING = """
-#define _GNU_SOURCE
-#include <dlfcn.h>
-#include <errno.h>
-#include <fcntl.h>
-#include <stdatomic.h>
-#include <stdio.h>
-#include <stdlib.h>
-#include <sys/syscall.h>
-#include <unistd.h>
-
-static atomic_ulong count;
-static unsigned long refused;
-
-__attribute__((constructor)) static void begin(void) {
-    const char *number = getenv("REFUSED");
-    refused = number ? strtoul(number, NULL, 10) : 0;
-    count = 0;
-}
-
-static int refuses(void) {
-    if (atomic_fetch_add(&count, 1) + 1 != refused) return 0;
-    errno = ENOMEM;
-    return 1;
-}
-
-void *malloc(size_t size) {
-    static void *(*next)(size_t);
-    if (!next) next = dlsym(RTLD_NEXT, "malloc");
-    return refuses() ? NULL : next(size);
-}
-
-void *realloc(void *old, size_t size) {
-    static void *(*next)(void *, size_t);
-    if (!next) next = dlsym(RTLD_NEXT, "realloc");
-    return refuses() ? NULL : next(old, size);
-}
-
-void *aligned_alloc(size_t align, size_t size) {
-    static void *(*next)(size_t, size_t);
-    if (!next) next = dlsym(RTLD_NEXT, "aligned_alloc");
-    return refuses() ? NULL : next(align, size);
-}
-
-int posix_memalign(void **place, size_t align, size_t size) {
-    static int (*next)(void **, size_t, size_t);
-    if (!next) next = dlsym(RTLD_NEXT, "posix_memalign");
-    return refuses() ? ENOMEM : next(place, align, size);
-}
-
-__attribute__((destructor)) static void end(void) {
-    const char *path = getenv("COUNTED");
-    char text[32];
-    int file = path ? open(path, O_WRONLY | O_CREAT | O_TRUNC, 0600) : -1;
-    if (file >= 0) {
-        int length = snprintf(text, sizeof text, "%lu", (unsigned long)count);
-        if (write(file, text, (size_t)length) < 0) _exit(99);
-        close(file);
-    }
-}
-
-/* A program with threads ends by this call, which runs no destructors. */
-void _exit(int status) {
-    end();
-    syscall(SYS_exit_group, status);
-    __builtin_unreachable();
-}
-"""
+# The library that refuses.
+REFUSING = Path(__file__).resolve().with_name("refuse_memory.c")
 
 FAULTS = (b"OutOfMemory", b"NoThread", b"NoDesks")
 NO_MEMORY = b"fault,0,OutOfMemory,,,,,\n"
@@ -388,9 +321,8 @@ def main():
     passed = failed = 0
     with tempfile.TemporaryDirectory() as name:
         folder = Path(name)
-        source, library = folder / "refusing.c", folder / "refusing.so"
-        source.write_text(REFUSING)
-        subprocess.run(["cc", "-shared", "-fPIC", "-O1", source, "-o", library, "-ldl"], check=True)
+        library = folder / "refusing.so"
+        subprocess.run(["cc", "-shared", "-fPIC", "-O1", REFUSING, "-o", library, "-ldl"], check=True)
         trials = [(words, Trial(library, folder, [program, *words.split()], text), is_front) for words, text in TEXTS.items()]
         trials.append(("a broken text in two files", named_trial(program, library, folder), is_front))
         trials.append(("a book's day", Trial(library, folder, [trial, "day"], ""), goes_on))

@@ -1,8 +1,8 @@
 #!/usr/bin/env python3
-"""run COMMAND [GROUP | GROUP/CASE ..]
+"""run.py COMMAND [GROUP | GROUP/CASE ..]
 
 Runs the acceptance cases beside this file, of the groups or cases that are named or of all, with
-COMMAND as the beginning of the command line: tests/cases/run crates/gasday/out/gasday
+COMMAND as the beginning of the command line: tests/cases/run.py crates/gasday/out/gasday
 
 A case is a file GROUP/CASE.case of parts, each behind a line `-- PART --` (the form of Go's txtar), and is run in an
 empty folder of its own. A part whose bytes a line of text can't show stands behind `-- PART escaped --` with backslash

@@ -1,5 +1,5 @@
 #!/usr/bin/env python3
-"""run [NAME ..]
+"""run.py [NAME ..]
 
 Puts wrong bodies, of those beside this file that are named or of all, each into a copy of the crates by itself, and runs the
 tests of one crate over it, unproved (`rt try --test`): the test that the file names must fail. They are bodies that meet their
@@ -10,8 +10,6 @@ A file NAME.edit is a must-fail edit with two lines more: `crate:` has the crate
 tests and the test. The last line is 'N passed, M failed', and the exit status is 0 only where none failed.
 """
 
-import importlib.machinery
-import importlib.util
 import re
 import subprocess
 import sys
@@ -19,20 +17,12 @@ import tempfile
 from pathlib import Path
 
 HERE = Path(__file__).resolve().parent
+sys.dont_write_bytecode = True
 sys.path.insert(0, str(HERE.parent))
+import prove
+import try_edits
+
 SECONDS = 1800
-
-
-def module(name):
-    """A script of the folder above as a module."""
-    loader = importlib.machinery.SourceFileLoader(name, str(HERE.parent / name))
-    found = importlib.util.module_from_spec(importlib.util.spec_from_loader(name, loader))
-    sys.modules[name] = found
-    loader.exec_module(found)
-    return found
-
-
-EDITS, PROVE = module("edits"), module("prove")
 
 
 def told(text, key):
@@ -44,8 +34,8 @@ def tried(path, folder):
     """Whether the test that a wrong body names fails over it, and what was told."""
     text = path.read_text()
     crate, (tests, test) = told(text, "crate"), told(text, "fails").split(" ")
-    PROVE.lay(folder, PROVE.wanted([tests]))
-    changed, why = EDITS.RT.edited(text, str(folder / "crates" / crate))
+    prove.lay(folder, prove.wanted([tests]))
+    changed, why = try_edits.RT.edited(text, str(folder / "crates" / crate))
     if why:
         return False, f"it can't be applied: {why}"
     for file, now in changed.items():

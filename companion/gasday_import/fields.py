@@ -1,0 +1,69 @@
+"""What a field should be by its title, and what can be repaired to be so."""
+
+import functools
+import re
+from dataclasses import dataclass
+
+from .forms import NUMBERS, TEXTS, is_number
+from .reading import Sheet
+
+NAME = re.compile(r"[A-Z0-9-]{1,16}")
+DIGITS, NO_DIGIT, MARK = re.compile("[0-9]{1,18}"), re.compile("[^0-9]"), re.compile("[.,]")
+GROUPED = re.compile(r"([1-9][0-9]{0,2})((?:([ \u00a0\u2009\u202f'\u2019.,])[0-9]{3})(?:\3[0-9]{3})*)")
+# The mark that groups where no number tells, by what separates fields.
+GROUPING = {",": ",", ";": "."}
+
+
+@dataclass(frozen=True, slots=True)
+class Mended:
+    """A field as it should be; or else none, and why it can't be."""
+
+    field: str | None
+    why: str = ""
+
+
+def marks_of(sheet: Sheet) -> frozenset[str]:
+    """Which of comma and point groups thousands where a number has it once: the one that another number of the file has
+    twice, or else a comma between commas and a point between semicolons; none that is a decimal mark in the file."""
+    groups: set[str] = set()
+    decimal: set[str] = set()
+    marked = [row for row in sheet.rows if any("." in field or "," in field for field in row.fields)]
+    for title, field in (pair for row in marked for pair in zip(row.titles(), row.fields[1:], strict=False)):
+        if is_number(title):
+            found, match = MARK.findall(field), GROUPED.fullmatch(field.strip().lstrip("-"))
+            if match and len(found) > 1:
+                groups.add(found[0])
+            elif found and not match:
+                decimal.add(found[-1])
+    groups = groups or set(GROUPING.get(sheet.separator, ""))
+    return frozenset(groups - decimal if len(groups) == 1 else ())
+
+
+def number_in(field: str, marks: frozenset[str]) -> Mended:
+    """The digits of a number with or without groups."""
+    sign, size = ("-", field[1:]) if field.startswith("-") else ("", field)
+    match = GROUPED.fullmatch(size)
+    if DIGITS.fullmatch(size):
+        return Mended(field)
+    if not match:
+        return Mended(None, "is no whole number")
+    mark = match.group(3)
+    if mark in ".," and match.group(2).count(mark) == 1 and mark not in marks:
+        return Mended(None, f"is ambiguous: {mark!r} may group thousands or be a decimal mark")
+    digits = NO_DIGIT.sub("", size)
+    return Mended(sign + digits) if DIGITS.fullmatch(digits) else Mended(None, "has more than 18 digits")
+
+
+@functools.lru_cache(maxsize=2**16)
+def mended_field(title: str, field: str, marks: frozenset[str]) -> Mended:
+    """A field as its title wants it. An empty one is left to `gasday`."""
+    if field == "" or title in TEXTS:
+        return Mended(field)
+    if is_number(title):
+        return Mended(None, "is below zero") if title in NUMBERS and field[0] == "-" else number_in(field, marks)
+    if not title.isupper():
+        word = field.lower()
+        words = title.split("|")
+        return Mended(word) if word in words else Mended(None, f"is none of {', '.join(words)}")
+    name = field.upper() if field.isascii() else field
+    return Mended(name) if NAME.fullmatch(name) else Mended(None, "is no name: 1 to 16 of A to Z, 0 to 9 and -")

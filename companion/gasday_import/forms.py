@@ -1,0 +1,79 @@
+"""The kinds of rows: the stage of a text in which each stands, and what its fields are."""
+
+import re
+from dataclasses import dataclass
+
+FIELDS = 8
+
+# The kinds of each stage, with the titles of the fields behind them. A title is a word in capitals, or the words that its
+# field takes.
+STAGES = (
+    {"segment": "NAME FROM TO CAPACITY", "point": "NAME receipt|delivery PLACE OPERATOR CAPACITY", "pool": "NAME PLACE OPERATOR"},
+    {"contract": "NAME SHIPPER firm|interruptible QUANTITY ORIGIN DEST"},
+    {"question": "BOOK CYCLE ROUND", "day": "DATE ZONE BOOK"},
+    {"capacity": "ELEMENT CAPACITY", "carry": "CONTRACT PACKAGE ORIGIN DEST QUANTITY"},
+    {"line": "ORIGIN DEST CLASS FLOOR CEILING"},
+    {"sched": "LINE QUANTITY"},
+    {"price": "ELEMENT LEVEL WORD SPREAD"},
+    {"inside": "place|point|pool NAME"},
+    {
+        "nominate": "MOMENT PARTY CONTRACT PACKAGE ORIGIN DEST QUANTITY",
+        "respond": "MOMENT PARTY LINE origin|dest QUANTITY",
+        "post": "MOMENT ELEMENT CAPACITY",
+        "freeze": "MOMENT",
+        "settle": "MOMENT",
+        "skip": "MOMENT",
+        "publish": "MOMENT ROUND",
+        "declare": "MOMENT ROUND",
+        "waive": "MOMENT LINE",
+        "session": "SLOT PARTY",
+        "desk": "MOMENT",
+    },
+)
+PIPELINE, EVENT = 1, len(STAGES)
+INTERRUPTIBLE = ("NAME", "SHIPPER", "firm|interruptible", "QUANTITY", "BAND")
+
+NUMBERS = {"CAPACITY", "QUANTITY", "CYCLE", "ROUND", "CLASS", "FLOOR", "CEILING", "LINE", "LEVEL", "MOMENT", "SLOT", "BAND"}
+SIGNED, TEXTS = {"WORD", "SPREAD"}, {"DATE", "ZONE"}
+
+
+@dataclass(frozen=True, slots=True)
+class Kind:
+    """What holds of all rows of a kind."""
+
+    stage: int  # from 1
+    titles: tuple[str, ...]
+    clean: re.Pattern[str]  # a row where nothing is to be repaired, and perhaps a line end
+
+
+def is_number(title: str) -> bool:
+    return title in NUMBERS or title in SIGNED
+
+
+def pattern_of(title: str) -> str:
+    """A field without quotes where nothing is to be repaired; an empty one is left to `gasday`."""
+    if title in NUMBERS:
+        return "[0-9]{0,18}"
+    if title in SIGNED:
+        return "(?:-?[0-9]{1,18})?"
+    if title in TEXTS:
+        return r'(?:[^\s",](?:[^",\r\n]*[^\s",])?)?'
+    return "[A-Z0-9-]{0,16}" if title.isupper() else f"(?:{title})?"
+
+
+def clean_row(kind: str, *forms: tuple[str, ...]) -> re.Pattern[str]:
+    """The rows of a kind where nothing is to be repaired."""
+    bodies = [",".join(map(pattern_of, titles)) + "," * (FIELDS - 1 - len(titles)) for titles in forms]
+    return re.compile(f"{kind},(?:{'|'.join(bodies)})[\r\n]*")
+
+
+def kinds_of(stage: int, forms: dict[str, str]) -> dict[str, Kind]:
+    kinds = {}
+    for kind, form in forms.items():
+        titles = tuple(form.split())
+        more = [INTERRUPTIBLE] if kind == "contract" else []
+        kinds[kind] = Kind(stage, titles, clean_row(kind, titles, *more))
+    return kinds
+
+
+KINDS = {kind: what for stage, forms in enumerate(STAGES, 1) for kind, what in kinds_of(stage, forms).items()}
