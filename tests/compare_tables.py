@@ -1,0 +1,169 @@
+#!/usr/bin/env python3
+"""compare_tables.py
+
+Holds what users are told of rows, faults and refusals against the program's own tables:
+
+- the forms of rows in `docs/DEFINITIONS.md` are those in the program's help, and the importer's kinds, stages and fields;
+- the fields that messages know of each kind are as many as its form has (`crates/gd_messages/src/field.rt`);
+- the refusals of each call stand in the help and in DEFINITIONS in the order of the machine's tests (`Machine.tests_of`);
+- each refusal, each cause of a text's fault and each finding of a check that the program can print has a meaning in the help, and
+  each refusal one in the report.
+
+What differs is printed. The last line is 'N passed, M failed', and the exit status is 0 only where none failed.
+"""
+
+import re
+import sys
+from collections.abc import Iterator
+from itertools import groupby
+from pathlib import Path
+
+TOP = Path(__file__).resolve().parent.parent
+sys.path.insert(0, str(TOP / "companion"))
+sys.dont_write_bytecode = True
+
+from gasday_import.forms import INTERRUPTIBLE, STAGES
+from gasday_report.day import REFUSALS
+
+from manual import HELP, helps_in
+
+CRATES = TOP / "crates"
+ROUTE = ("UnknownEnd", "WrongEnd", "SameEnd", "NoRoute")
+# The machine's events, each with the word of its call.
+CALLS = {"Nominate": "nominate", "Respond": "respond", "PostCapacity": "post", "Freeze": "freeze", "Publish": "publish",
+         "Declare": "declare", "Waive": "waive", "Skip": "skip"}
+# Names that no row of a text or a call has, since what they tell is printed by a row of its own.
+NEVER_PRINTED = {"OutOfMemory"}
+Form = tuple[str, ...]
+
+
+def text_of(path: str) -> str:
+    return (TOP / path).read_text(encoding="utf-8")
+
+
+def defined_forms() -> dict[Form, int]:
+    """The forms of rows in DEFINITIONS, each with its stage."""
+    found = {}
+    for stage, cell in re.findall(r"^\| (\d) \| (.*?) \| ", text_of("docs/DEFINITIONS.md"), re.M):
+        for form in re.findall(r"`([a-z]+(?:,[A-Za-z]+)+)`", cell):
+            found[tuple(form.split(","))] = int(stage)
+    return found
+
+
+def helped_forms(text: str) -> set[Form]:
+    """The forms of rows in the long help, up to what it says of faults."""
+    rows = text.partition("\nFaults:")[0]
+    return {tuple(form.split(",")) for form in re.findall(r"^  ([a-z]+(?:,[A-Za-z]+)+)$", rows, re.M)}
+
+
+def imported_forms() -> dict[Form, int]:
+    """The forms of rows that the importer takes, each with its stage. Of the words that a field takes the first is in its form."""
+    def first(titles: str | Form) -> Form:
+        words = titles.split() if isinstance(titles, str) else titles
+        return tuple(word.split("|")[0] for word in words)
+
+    found = {(kind, *first(titles)): stage for stage, kinds in enumerate(STAGES, 1) for kind, titles in kinds.items()}
+    found[("contract", *(word.split("|")[-1] for word in INTERRUPTIBLE))] = 2
+    return found
+
+
+def told_fields() -> dict[str, int]:
+    """The last field that messages know of each kind."""
+    text = text_of("crates/gd_messages/src/field.rt")
+    found = {}
+    for kinds, number in re.findall(r"\(((?:RowKind::\w+(?: \| )?)+), (\d)\)", text):
+        for kind in re.findall(r"RowKind::(\w+)", kinds):
+            found[kind.lower()] = max(found.get(kind.lower(), 2), int(number))
+    contract = text.partition("fn contract_field")[2].partition("\n}")[0]
+    found["contract"] = max(map(int, re.findall(r"^        (\d)", contract, re.M)))
+    return found
+
+
+def tested_refusals() -> dict[str, list[str]]:
+    """The refusals of each call in the order of the machine's tests."""
+    text = text_of("crates/gd_machine/specs/Machine.antt").partition("\nabbrev pub tests_of")[2].partition("\n-- ")[0]
+    found = {}
+    for event, tests in re.findall(r"^tests_of day h \((\w+)[^=]*=\n((?: +.*\n)+)", text, re.M):
+        names = []
+        for line in tests.split("\n"):
+            names += ROUTE if "route_tests" in line else re.findall(r", ([A-Z]\w+)(?: [A-Z(].*)?\)", line)
+        found[CALLS[event]] = [name for name, _ in groupby(names)]
+    return found
+
+
+def helped_refusals(text: str) -> dict[str, list[str]]:
+    """The refusals of each call in the help of `day`, by their numbers."""
+    part = text.partition("by their number N")[2].partition("\n  and on each")[0]
+    found: dict[str, list[str]] = {}
+    for call, row in re.findall(r"^  ([a-z]+) +(1 .*(?:\n {12}.*)*)", part, re.M):
+        # A text's certificate that doesn't pass is told in the place of one for another question.
+        found[call] = re.findall(r"\d (?:Certificate or )?(\w+)", " ".join(row.split()))
+    return found
+
+
+def defined_refusals() -> dict[str, list[str]]:
+    """The refusals of each call in DEFINITIONS."""
+    text = next(line for line in text_of("docs/DEFINITIONS.md").split("\n") if line.startswith("The refusals, in order:"))
+    text = re.sub(r"\([^)]*\)", "", text).partition(", and then want of memory")
+    found = {}
+    for call, names in re.findall(r"of `(\w+)` ([^;.]*)", text[0] + ";" + text[2].partition(";")[2]):
+        listed = names.replace("those of the route", ", ".join(ROUTE))
+        found[call.removesuffix("_capacity")] = re.findall(r"\b[A-Z]\w+", listed)
+    return found
+
+
+def printed(*places: str) -> set[str]:
+    """The names that these types print."""
+    found = set()
+    for place in places:
+        found |= set(re.findall(r'f\.write_str\("(?:0,)?([A-Z]\w+),?"\)', text_of(place)))
+    return found - NEVER_PRINTED
+
+
+def meanings(*texts: str) -> set[str]:
+    """The names that have a meaning in these helps."""
+    return {name for text in texts for name in re.findall(r"^  ([A-Z][a-z]\w+)  +\S", text, re.M)}
+
+
+def differing(what: str, first: object, second: object) -> Iterator[str | None]:
+    yield None if first == second else f"{what}: {first} and {second}"
+
+
+def faults() -> Iterator[str | None]:
+    helps = helps_in(HELP.read_text(encoding="utf-8"))
+    program, check, day = helps["program"], helps["check"], helps["day"]
+    defined, imported = defined_forms(), imported_forms()
+    yield from differing("forms of rows in DEFINITIONS and in the help", sorted(set(defined) ^ helped_forms(program)), [])
+    taken = {form: stage for form, stage in defined.items() if form[0] != "bumped"}
+    for form in sorted(set(taken) | set(imported)):
+        yield from differing(f"the stage of {','.join(form)} in DEFINITIONS and in the importer", taken.get(form), imported.get(form))
+    fields = told_fields()
+    for kind in sorted({form[0] for form in taken}):
+        wanted = max(len(form) for form in taken if form[0] == kind)
+        yield from differing(f"the fields of {kind} in DEFINITIONS and in messages", wanted, fields.get(kind, 2))
+    tested, told, said = tested_refusals(), helped_refusals(day), defined_refusals()
+    for call, names in tested.items():
+        yield from differing(f"the refusals of {call} in the machine and in the help", names, told.get(call))
+        yield from differing(f"the refusals of {call} in the machine and in DEFINITIONS", names, said.get(call))
+    refusals = printed("crates/gd_machine/src/refusal.rt") | set(ROUTE)
+    yield from differing("refusals without a meaning in the help", sorted(refusals - meanings(day)), [])
+    yield from differing("refusals without a meaning in the report", sorted(refusals - set(REFUSALS) - {"BoardTaken"}), [])
+    causes = printed("crates/gd_text_part/src/fault.rt", "crates/gd_system/src/fault.rt", "crates/gd_question/src/fault.rt")
+    yield from differing("causes without a meaning in the help", sorted(causes - meanings(program)), [])
+    found = printed("crates/gd_schedule/src/fault.rt", "crates/gd_certificate/src/fault.rt")
+    yield from differing("findings without a meaning in the help", sorted(found - meanings(check)), [])
+
+
+def main() -> int:
+    if len(sys.argv) != 1:
+        print((__doc__ or "").strip())
+        return 2
+    results = [*faults()]
+    failed = [result for result in results if result]
+    print("".join(f"FAIL {fault}\n" for fault in failed), end="")
+    print(f"{len(results) - len(failed)} passed, {len(failed)} failed")
+    return 0 if len(results) > len(failed) and not failed else 1
+
+
+if __name__ == "__main__":
+    sys.exit(main())
