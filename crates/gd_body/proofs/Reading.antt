@@ -1,8 +1,6 @@
 -- What rows say, one value after the other.
-use Rattle.std.specs.Prelude.{◌⊎◌, ◌&&◌, nat_le, nat_lt}
-use Rattle.std.proofs.Common.{◌≡◌, ◌≢◌, ◌↔◌, ℕ, ℤ, ◌+◌, ◌<◌, Bool, true, false, IsTrue, List, ◌∷◌, length, drop, get_or, Some, Result, Ok, Err, sym, subst, ap, ap₂, ◌∙◌, inl, inr}
-use Rattle.std.proofs.lemmas.Bool.{false≢true}
-use Rattle.std.proofs.lemmas.List.{drop_more}
+use Rattle.std.specs.Prelude.{◌⊎◌}
+use Rattle.std.proofs.Common.{◌≡◌, ◌≢◌, ◌↔◌, ℕ, ℤ, ◌<◌, Bool, false, IsTrue, List, get_or, Some, Result, Ok, Err, sym, subst, ap, ap₂, ◌∙◌, inl, inr}
 use Rattle.std.proofs.lemmas.List.FromFn.{fill_by_all}
 use Rattle.std.proofs.lemmas.Option.{slice_get-get_or, same_Some}
 use Rattle.gd_cost.specs.Made.{list_of, first_of, second_of}
@@ -17,7 +15,7 @@ use Rattle.gd_text_part.specs.declared.fault.TextFault.TheVariants as fault
 use Rattle.gd_text_part.specs.declared.row.Row.{Row}
 use Rattle.gd_text.specs.Prices.{Table, eight, prices_of, ArePrices}
 use Rattle.gd_text.specs.Values.{asked_of}
-use Rattle.gd_body.specs.Body.{price_in, prices_in, bumped_of, posting_about, tariffs_of, posting_priced, posting_of, posting_in, rises_within}
+use Rattle.gd_body.specs.Body.{price_in, prices_in, bumped_of, posting_about, tariffs_of, posting_priced, posting_of, posting_in}
 use Rattle.gd_body.specs.Rows.{body_text}
 
 abbrev of_words : List ℤ → List ℤ → Pair (Lex 8) (Lex 8)
@@ -67,19 +65,3 @@ pub not_said : (p back : Posting) (text : List ℕ) (same : Bool) → text ≡ b
 not_said p back text same written said tells differ = λ (h : posting_in (body_text p) ≡ Some p).
     let right : IsTrue same = tells.1 (same_Some p back (sym h ∙ ap posting_in (sym written) ∙ said)) in
     cc
-
--- one bumped line more
-pub rises_more : (bumped : List (ℕ × ℕ)) (at : ℕ) (b : ℕ × ℕ) (first count : ℕ) → at < length bumped → b ≡ get_or bumped at b
-    → rises_within first count (drop at bumped) ≡ ((nat_le first b.0 && nat_lt b.0 count) && rises_within (b.0 + 1) count (drop (at + 1) bumped))
-rises_more bumped at b first count below is =
-    ap (rises_within first count) (drop_more bumped at b below ∙ ap (λ (x : ℕ × ℕ). x ∷ drop (at + 1) bumped) (sym is))
-
--- where it is within the lines
-pub goes_on : (within rest whole : Bool) → (within && rest) ≡ whole → within ≡ true → rest ≡ whole
-goes_on true rest whole so is = so
-goes_on false rest whole so is = absurd (false≢true is)
-
--- where it isn't
-pub ends_there : (within rest whole : Bool) → (within && rest) ≡ whole → within ≡ false → false ≡ whole
-ends_there true rest whole so is = absurd (false≢true (sym is))
-ends_there false rest whole so is = so

@@ -1,6 +1,6 @@
 -- The posting that a text says, and what reading and writing may answer.
-use Rattle.std.specs.Prelude.{Bool, true, ◌&&◌, nat_le, nat_lt, length, if◌then◌else◌, ◌≡◌, ◌≢◌, ℕ, ◌+◌, ◌-◌, ⊤, List, [], ◌∷◌, map, Option, Some, None, Result, Ok, Err}
-use Rattle.std.specs.List.{range_with_len}
+use Rattle.std.specs.Prelude.{Bool, ◌&&◌, nat_le, nat_lt, length, if◌then◌else◌, ◌≡◌, ◌≢◌, ℕ, ◌-◌, ⊤, List, [], ◌∷◌, map, zip, drop, Option, Some, None, Result, Ok, Err}
+use Rattle.std.specs.List.{list_all, range_with_len}
 use Rattle.gd_cost.specs.declared.lex.Lex.{Lex}
 use Rattle.gd_cost.specs.declared.pair.Pair.{Pair}
 use Rattle.gd_system.specs.Pipeline.{Pipeline}
@@ -61,14 +61,17 @@ posting_priced rows asked =
 abbrev pub posting_of : List Row → Result Posting TextFault
 posting_of rows = asked_of rows >>= posting_priced rows
 
--- each of these lines is one of so many, and none comes before or twice: the first is at least this one
-abbrev pub rises_within : ℕ → ℕ → List (ℕ × ℕ) → Bool
-rises_within first count [] = true
-rises_within first count (b ∷ bumped) = (nat_le first b.0 && nat_lt b.0 count) && rises_within (b.0 + 1) count bumped
+-- each number is below the one that follows
+abbrev pub rises : List ℕ → Bool
+rises numbers = list_all (λ pair. nat_lt pair.0 pair.1) (zip numbers (drop 1 numbers))
+
+-- these lines are some of so many, and each comes before the one that follows
+abbrev pub rises_within : ℕ → List (ℕ × ℕ) → Bool
+rises_within count bumped = list_all (λ b. nat_lt b.0 count) bumped && rises (map (λ b. b.0) bumped)
 
 -- the bumped lines are lines of the question, in rising order, each once
 abbrev pub posting_found : Result Posting TextFault → Option Posting
-posting_found (Ok p) = if rises_within 0 (length p.question.asked.lines) p.bumped then Some p else None
+posting_found (Ok p) = if rises_within (length p.question.asked.lines) p.bumped then Some p else None
 posting_found (Err f) = None
 
 abbrev pub posting_under : Result (List Row) RowFault → Option Posting

@@ -1,3 +1,4 @@
 pub mod Body
+pub mod Publishable
 pub mod Rows
 pub mod Spread

@@ -8,6 +8,7 @@
 
 mod body;
 mod fault;
+mod laws;
 mod question;
 mod read;
 mod row;
@@ -16,5 +17,6 @@ mod taken;
 
 pub use body::body_of;
 pub use fault::BodyFault;
+pub use laws::{bumped_lines_rise, publishable_posting_reads_back};
 pub use read::read_body;
 pub use spread::without_spread;

@@ -74,7 +74,7 @@ fn is_within(first: usize, count: usize, line: usize) -> bool
 
 /// Whether these are some of so many lines, in rising order, each once.
 fn rises_within(count: usize, bumped: &[(u32, Dth)]) -> bool
-    ensures { result ≡ spec.rises_within 0 count bumped.now }
+    ensures { result ≡ spec.rises_within count bumped.now }
 {
     let mut first = 0;
     'lines: for (line, _) in bumped {

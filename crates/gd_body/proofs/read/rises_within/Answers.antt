@@ -1,11 +1,10 @@
-use Rattle.std.proofs.Common.{◌∙◌, ap, sym, refl}
+use Rattle.std.proofs.Common.{◌∙◌, ap, sym}
 use Rattle.std.proofs.lemmas.List.{drop_all}
-use Rattle.gd_body.specs.Body.{rises_within}
-use Rattle.gd_body.proofs.Reading.{rises_more, goes_on, ends_there}
+use Rattle.gd_body.proofs.Rising.{rises_from, rises_from_none, rises_more, goes_on, ends_there}
 use Rattle.gd_body.proofs.read.rises_within.Goals as goal
 
 pub lines-init : goal.lines-init
-lines-init c = refl
+lines-init c = rises_from_none c.args.count c.args.bumped.now
 
 pub returns-then-not-is_within : goal.returns-then-not-is_within
 returns-then-not-is_within c =
@@ -18,4 +17,4 @@ lines-preserved c =
     goes_on _ _ _ (sym more ∙ c.lines.invariant) (sym c.if-not-is_within.ensures)
 
 pub returns : goal.returns
-returns c = ap (rises_within c.lines.first c.args.count) (sym (drop_all c.lines.line-index c.args.bumped.now c.lines-test.false)) ∙ c.lines.invariant
+returns c = ap (rises_from c.lines.first c.args.count) (sym (drop_all c.lines.line-index c.args.bumped.now c.lines-test.false)) ∙ c.lines.invariant
