@@ -1,0 +1,11 @@
+mod Texts
+mod Refusing
+mod Rows
+mod Numbers
+mod Committing
+mod Creating
+mod Inserting
+mod Listing
+mod Counting
+mod Settling
+mod Examples
