@@ -1,7 +1,8 @@
 -- Lines, and where a text may be cut, at worked examples.
 use Rattle.std.proofs.Common.{◌≡◌, [], ◌∷◌, codes, refl, ap, arith}
 use Rattle.csv.specs.declared.parser.State.TheVariants.{StartRecord, InField, InQuoted}
-use Rattle.gd_text_lines.specs.Lines.{Left, IsClosed, IsPlain, cut_at_commas, text_of_lines}
+use Rattle.gd_text_part.specs.Lines.{IsPlain, cut_at_commas}
+use Rattle.gd_text_lines.specs.Lines.{Left, IsClosed, text_of_lines}
 
 worked_cut : cut_at_commas [] (codes "respond,7,,70,") ≡ codes "respond" ∷ codes "7" ∷ [] ∷ codes "70" ∷ [] ∷ []
 worked_cut = refl

@@ -8,7 +8,8 @@ use Rattle.gd_text_part.specs.Places.{start}
 use Rattle.gd_text_part.specs.Texts.{rows_from, rows_of}
 use Rattle.gd_text_part.specs.declared.kind.Form.{Form}
 use Rattle.gd_text_lines.specs.Fronts.{front_from, front_of, longer_front, ended_front}
-use Rattle.gd_text_lines.specs.Lines.{Left, left_by, IsClosed, IsPlain, cut_at_commas, text_of_lines}
+use Rattle.gd_text_part.specs.Lines.{IsPlain, cut_at_commas}
+use Rattle.gd_text_lines.specs.Lines.{Left, left_by, IsClosed, text_of_lines}
 use Rattle.gd_text_lines.proofs.Fronts.{rows_join, fronts_join}
 use Rattle.gd_text_lines.proofs.Joined.{joins, left_append}
 use Rattle.gd_text_lines.proofs.Marks.{strip_joins}

@@ -5,7 +5,8 @@ use Rattle.std.proofs.lemmas.List.{append_assoc}
 use Rattle.std.proofs.lemmas.Bool.{cases_Bool}
 use Rattle.csv.specs.Reading.{default_config, records}
 use Rattle.csv.specs.declared.parser.State.TheVariants as st
-use Rattle.gd_text_lines.specs.Lines.{Left, left_by, IsClosed, IsPlain, cut_at_commas, text_of_lines}
+use Rattle.gd_text_part.specs.Lines.{IsPlain, cut_at_commas}
+use Rattle.gd_text_lines.specs.Lines.{Left, left_by, IsClosed, text_of_lines}
 use Rattle.gd_text_lines.proofs.Joined.{ended_in, left_append, joins, all_of, at_end}
 
 inner : (a b : Bool) → (a || b) ≡ false → (a ≡ false) × (b ≡ false)

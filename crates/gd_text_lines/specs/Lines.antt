@@ -1,6 +1,5 @@
--- Lines of a text that are records, each by itself, and where a text may be cut.
-use Rattle.std.specs.Prelude.{◌≡◌, ◌≤◌, ℕ, ◌==◌, ◌||◌, false, List, [], ◌∷◌, ◌++◌, length, flat_map, if◌then◌else◌}
-use Rattle.std.specs.List.{AllByRecursion}
+-- Where a text may be cut, and the text of lines.
+use Rattle.std.specs.Prelude.{◌≡◌, ℕ, List, [], ◌∷◌, ◌++◌, flat_map, if◌then◌else◌}
 use Rattle.csv.specs.Machine.{step, is_end, fields_after, field_after}
 use Rattle.csv.specs.Reading.{default_config}
 use Rattle.csv.specs.declared.parser.State.{State}
@@ -20,16 +19,6 @@ left_by s fields field (c ∷ bytes) =
 -- behind the bytes a record begins
 abbrev pub IsClosed : List ℕ → Type 0
 IsClosed bytes = left_by st.StartRecord [] [] bytes ≡ (st.StartRecord, [], [])
-
--- the fields of a line, cut at its commas, behind the field at hand
-abbrev pub cut_at_commas : List ℕ → List ℕ → List (List ℕ)
-cut_at_commas field [] = field ∷ []
-cut_at_commas field (c ∷ line) = if c == 44 then field ∷ cut_at_commas [] line else cut_at_commas (field ++ c ∷ []) line
-
--- a line that isn't empty, without a quotation mark, a carriage return or a line feed
-pub record IsPlain (line : List ℕ) : Type 0 where
-  pub some : 1 ≤ length line
-  pub plain : AllByRecursion (λ c. (c == 34 || (c == 13 || c == 10)) ≡ false) line
 
 -- lines, each with its line feed
 abbrev pub text_of_lines : List (List ℕ) → List ℕ

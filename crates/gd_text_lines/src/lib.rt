@@ -13,7 +13,8 @@ ghost use Rattle.csv.specs.declared.parser.State.TheVariants.{StartRecord};
 ghost use Rattle.gd_text_part.specs.Csv.{records_of};
 ghost use Rattle.gd_text_part.specs.Texts.{rows_from, rows_of};
 ghost use Rattle.gd_text_part.specs.declared.kind.Form.{Form};
-ghost use Rattle.gd_text_lines.specs.Lines.{IsClosed, IsPlain, cut_at_commas, left_by, text_of_lines};
+ghost use Rattle.gd_text_part.specs.Lines.{IsPlain, cut_at_commas};
+ghost use Rattle.gd_text_lines.specs.Lines.{IsClosed, left_by, text_of_lines};
 ghost use Rattle.gd_text_lines.specs.Fronts.{Place, front_from, front_of, longer_front, ended_front};
 
 /// The records of a closed text and of the bytes behind it are those of both.

@@ -4,6 +4,7 @@ pub mod Dates
 pub mod Events
 pub mod Findings
 pub mod Kinds
+pub mod Lines
 pub mod Numbers
 pub mod Offices
 pub mod Places
