@@ -12,7 +12,7 @@ use Rattle.gd_text_part.specs.declared.row.Row.TheVariants as row
 use Rattle.gd_text.specs.Members.{members_from}
 use Rattle.gd_text.specs.Prices.{prices_from}
 use Rattle.gd_day.specs.Calls.{Call, event_of, calls_after}
-use Rattle.gd_day.specs.Groups.{checked, checked_calls, AllPass}
+use Rattle.gd_day.specs.Groups.{checked, checked_group, checked_calls, Passes, AllPass}
 use Rattle.gd_text.proofs.Building.{left}
 use Rattle.gd_day.proofs.RowNumbers.{prices_whatever, members_whatever}
 
@@ -76,19 +76,21 @@ good : {X : Type 0} (o : Result X TextFault) → checked o ≡ Ok tt → IsOk o
 good (Ok x) h = refl
 good (Err f) h = cc
 
-both : (a b c : Result (Unit {0}) TextFault) → (a >>= λ u. b) >>= (λ u. c) ≡ Ok tt → (a ≡ Ok tt) × (b ≡ Ok tt) × (c ≡ Ok tt)
-both (Ok u) (Ok v) c h = (refl, refl, h)
-both (Err f) b c h = cc
-both (Ok u) (Err f) c h = cc
+both : (a b : Result (Unit {0}) TextFault) → (a >>= λ u. b) ≡ Ok tt → (a ≡ Ok tt) × (b ≡ Ok tt)
+both (Ok u) b h = (refl, h)
+both (Err f) b h = cc
 
 -- what was checked can be made, whatever the number of the first row
+pub passes : (p : Pipeline) (n : ℕ) (group : List Row) → checked_group p n group ≡ Ok tt → Passes p group
+passes p n group h =
+    let parts = both (checked (prices_from n group p)) (checked (members_from n group p)) h in
+    record {
+      prices = sym (prices_whatever p n group) ∙ good (prices_from n group p) parts.0;
+      members = sym (members_whatever p n group) ∙ good (members_from n group p) parts.1;
+    }
+
 pub all_pass : (p : Pipeline) (calls : List Call) → checked_calls p calls ≡ Ok tt → AllPass p calls
 all_pass p [] h = tt
 all_pass p (c ∷ calls) h =
-    let parts = both (checked (prices_from c.first c.group p)) (checked (members_from c.first c.group p)) (checked_calls p calls) h in (
-      record {
-        prices = sym (prices_whatever p c.first c.group) ∙ good (prices_from c.first c.group p) parts.0;
-        members = sym (members_whatever p c.first c.group) ∙ good (members_from c.first c.group p) parts.1;
-      },
-      all_pass p calls parts.2,
-    )
+    let parts = both (checked_group p c.first c.group) (checked_calls p calls) h in
+    (passes p c.first c.group parts.0, all_pass p calls parts.1)

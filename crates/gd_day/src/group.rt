@@ -123,6 +123,28 @@ fn check_group(
     check_members(system, first, group)
 }
 
+/// Checks the prices and the set of a call whose group begins at row `first`: `UnknownElement` for a price or a member of
+/// none, `Duplicate` for an element's second price at a class, told at its row. The only other error is want of memory. An
+/// empty group needs none.
+pub fn check_call(
+    alloc: Global,
+    system: &System,
+    first: u64,
+    group: &[Row],
+) -> Result<(), TextFault>
+    requires within { first + length group.now < 2 ^ 64 }
+    requires some { 0 < first }
+    ensures checked { Builds (λ made. made) result (spec.checked_group system.now first group.now) }
+    ensures passes { OnOk result (spec.Passes system.now group.now) }
+{
+    if group.is_empty() {
+        return Ok(());
+    }
+    system.known();
+    let mut last = vec![in alloc; 0u64; Class::COUNT * system.element_count()]?;
+    check_group(&mut last, system, first, group)
+}
+
 /// Checks the group of each call: `UnknownElement` for a price or a member of none, `Duplicate` for an element's second
 /// price at a class in one group, told at its row. One table serves all groups, so a group costs as much as it has rows.
 pub(crate) fn check_calls(alloc: Global, rows: &[Row], system: &System) -> Result<(), TextFault>

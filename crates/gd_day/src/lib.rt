@@ -11,5 +11,6 @@ mod named;
 mod text;
 
 pub use call::{event_of, offered_cut, offered_prices, offered_schedule};
+pub use group::check_call;
 pub use named::element_named;
 pub use text::{DayText, day_text_of};
