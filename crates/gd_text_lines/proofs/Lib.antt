@@ -4,4 +4,7 @@ mod Fresh
 mod Marks
 mod Fronts
 mod Following
+mod AmongCalls
+mod Renumbered
+mod RowLines
 mod Examples

@@ -9,7 +9,7 @@ use Rattle.gd_text_part.specs.Lines.{IsPlain, cut_at_commas}
 use Rattle.gd_text_lines.specs.Lines.{Left, left_by, IsClosed, text_of_lines}
 use Rattle.gd_text_lines.proofs.Joined.{ended_in, left_append, joins, all_of, at_end}
 
-inner : (a b : Bool) → (a || b) ≡ false → (a ≡ false) × (b ≡ false)
+pub inner : (a b : Bool) → (a || b) ≡ false → (a ≡ false) × (b ≡ false)
 inner true b h = absurd cc
 inner false b h = (refl, h)
 

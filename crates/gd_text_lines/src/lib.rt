@@ -4,16 +4,25 @@
 //! rows and the same first fault. So it is where the text before the lines ends between two records, and no line has a
 //! quotation mark or a line break within it: then each line is one record, cut at its commas, and the rows of the whole text
 //! are those of the text before, and then those of the lines from where these leave off.
+//!
+//! Behind the opening of a gas day rows stand in one place, and there again behind each of its calls; so a run may go on there
+//! behind a fault, and count its rows as it likes.
 #![tactic(auto)]
 
-ghost use Rattle.std.specs.Prelude.{◌≡◌, ◌≢◌, ℕ, ◌+◌, List, [], ◌++◌, length, map};
+ghost use Rattle.std.specs.Prelude.{◌≡◌, ◌≢◌, ℕ, ◌+◌, true, List, [], ◌++◌, length, map, Ok};
 ghost use Rattle.std.specs.List.{AllByRecursion};
 ghost use Rattle.csv.specs.Reading.{default_config, records, strip_bom};
 ghost use Rattle.csv.specs.declared.parser.State.TheVariants.{StartRecord};
 ghost use Rattle.gd_text_part.specs.Csv.{records_of};
 ghost use Rattle.gd_text_part.specs.Texts.{rows_from, rows_of};
 ghost use Rattle.gd_text_part.specs.declared.kind.Form.{Form};
-ghost use Rattle.gd_text_part.specs.Lines.{IsPlain, cut_at_commas};
+ghost use Rattle.gd_text_part.specs.declared.kind.Form.TheVariants as form;
+ghost use Rattle.gd_text_part.specs.declared.row.EventRow.{EventRow};
+ghost use Rattle.gd_text_part.specs.declared.row.Row.{Row};
+ghost use Rattle.gd_text_part.specs.declared.row.Row.TheVariants as row;
+ghost use Rattle.gd_text_lines.specs.Calls.{IsAmongCalls, is_of_call};
+ghost use Rattle.gd_text_part.specs.Lines.{IsPlain, behind_opening, cut_at_commas, line_of};
+ghost use Rattle.gd_text_part.specs.Places.{row_of};
 ghost use Rattle.gd_text_lines.specs.Lines.{IsClosed, left_by, text_of_lines};
 ghost use Rattle.gd_text_lines.specs.Fronts.{Place, front_from, front_of, longer_front, ended_front};
 
@@ -62,4 +71,29 @@ pub fn lines_are_read_one_by_one()
     ensures ended { (form : Form) (text : List ℕ) (lines : List (List ℕ)) → text ≢ [] → IsClosed (strip_bom text)
         → AllByRecursion IsPlain lines → rows_of form (text ++ text_of_lines lines)
         ≡ ended_front form (front_of form text) (length (records_of text)) (map (cut_at_commas []) lines) }
+{}
+
+/// A line that is a row is plain, and a plain line is the row that its fields are.
+pub fn row_lines_are_plain()
+    ensures plain { (place : Place) (n : ℕ) (line : List ℕ) (taken : Row × Place)
+        → line_of place n line ≡ Ok taken → IsPlain line }
+    ensures fields { (place : Place) (n : ℕ) (line : List ℕ) → IsPlain line
+        → line_of place n line ≡ row_of form.Day place n (cut_at_commas [] line) }
+{}
+
+/// Behind the opening of a gas day there are calls, and rows that wait for them; and behind each call rows stand behind the
+/// opening again.
+pub fn rows_begin_again_behind_a_call()
+    ensures opening { IsAmongCalls behind_opening }
+    ensures rows { (place : Place) (n : ℕ) (fields : List (List ℕ)) (r : Row) (next : Place) → IsAmongCalls place
+        → row_of form.Day place n fields ≡ Ok (r, next) → (is_of_call r ≡ true) × IsAmongCalls next }
+    ensures call { (place : Place) (n : ℕ) (fields : List (List ℕ)) (event : EventRow) (next : Place)
+        → IsAmongCalls place → row_of form.Day place n fields ≡ Ok (row.Event event, next) → next ≡ behind_opening }
+{}
+
+/// Records that are rows behind the opening of a gas day, up to where nothing waits, are so whatever their numbers.
+pub fn rows_are_good_at_every_number()
+    ensures { (n m : ℕ) (records : List (List (List ℕ))) (rows : List Row)
+        → front_from form.Day behind_opening n records ≡ Ok (rows, behind_opening)
+        → front_from form.Day behind_opening m records ≡ Ok (rows, behind_opening) }
 {}
