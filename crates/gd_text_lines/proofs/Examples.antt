@@ -1,15 +1,7 @@
 -- Lines, and where a text may be cut, at worked examples.
-use Rattle.std.proofs.Common.{◌≡◌, [], ◌∷◌, codes, refl, ap, arith}
+use Rattle.std.proofs.Common.{◌≡◌, [], ◌∷◌, codes, refl, ap}
 use Rattle.csv.specs.declared.parser.State.TheVariants.{StartRecord, InField, InQuoted}
-use Rattle.gd_text_part.specs.Lines.{IsPlain, cut_at_commas}
 use Rattle.gd_text_lines.specs.Lines.{Left, IsClosed, text_of_lines}
-
-worked_cut : cut_at_commas [] (codes "respond,7,,70,") ≡ codes "respond" ∷ codes "7" ∷ [] ∷ codes "70" ∷ [] ∷ []
-worked_cut = refl
-
--- a line of nothing but a comma is two empty fields
-worked_comma : cut_at_commas [] (codes ",") ≡ [] ∷ [] ∷ []
-worked_comma = refl
 
 worked_text : text_of_lines (codes "a" ∷ codes "b,c" ∷ []) ≡ 97 ∷ 10 ∷ 98 ∷ 44 ∷ 99 ∷ 10 ∷ []
 worked_text = refl
@@ -28,9 +20,3 @@ worked_open e = let within : InField ≡ StartRecord = ap (λ (l : Left). l.0) e
 -- nor is one whose line feed stands within quotation marks
 worked_quoted : ¬ IsClosed (34 ∷ 97 ∷ 10 ∷ [])
 worked_quoted e = let within : InQuoted ≡ StartRecord = ap (λ (l : Left). l.0) e in absurd cc
-
-worked_plain : IsPlain (codes "a,b")
-worked_plain = record { some = omega arith; plain = (refl, (refl, (refl, tt))) }
-
-worked_empty : ¬ IsPlain []
-worked_empty plain = omega (arith, plain.some)

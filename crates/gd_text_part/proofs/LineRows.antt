@@ -1,9 +1,10 @@
 -- Rows that come line by line, at worked examples.
-use Rattle.std.specs.Prelude.{◌≡◌, [], ◌∷◌, ◌++◌, codes, Ok, Err, ⊤, refl}
+use Rattle.std.proofs.Common.{◌≡◌, [], ◌∷◌, ◌++◌, codes, Ok, Err, refl, arith}
+use Rattle.std.specs.Prelude.{⊤}
 use Rattle.csv.specs.Records.{field_at}
 use Rattle.gd_rules.specs.Lines.{Key}
 use Rattle.gd_text_part.specs.Events.{nominate_row, moment_and_round}
-use Rattle.gd_text_part.specs.Lines.{bare, behind_opening, cut_at_commas, line_of}
+use Rattle.gd_text_part.specs.Lines.{IsPlain, bare, behind_opening, cut_at_commas, line_of}
 use Rattle.gd_text_part.specs.Numbers.{number_after}
 use Rattle.gd_text_part.specs.Rows.{empty_run, key_at, sched_row}
 use Rattle.gd_text_part.specs.declared.fault.Cause.TheVariants.{BadField, FieldCount, Order}
@@ -25,6 +26,12 @@ worked_bare = (refl, refl, refl, refl)
 worked_cut : (cut_at_commas [] (codes "respond,7,,70,") ≡ codes "respond" ∷ codes "7" ∷ [] ∷ codes "70" ∷ [] ∷ [])
     × (cut_at_commas [] (codes ",") ≡ [] ∷ [] ∷ []) × (cut_at_commas [] [] ≡ [] ∷ [])
 worked_cut = (refl, refl, refl)
+
+worked_plain : IsPlain (codes "a,b")
+worked_plain = record { some = omega arith; plain = (refl, (refl, (refl, tt))) }
+
+worked_empty : ¬ IsPlain []
+worked_empty plain = omega (arith, plain.some)
 
 line : Key
 line = record { contract = codes "F"; «package» = codes "G"; origin = codes "R"; dest = codes "D" }
