@@ -7,7 +7,7 @@ ghost use Rattle.gd_book.specs.Postings.{AllPosted};
 ghost use Rattle.gd_machine.specs.Headline.{Holds};
 ghost use Rattle.gd_course.specs.Course as spec;
 
-use crate::event::make_call;
+use crate::event::call;
 use gd_board::{Board, BoardNote};
 use gd_book::Book;
 use gd_day::event_of;
@@ -47,7 +47,7 @@ pub fn run(
         let Some(event) = event_of(row) else {
             continue;
         };
-        let mut answer = make_call(rt, alloc, book, board, note, &rows[start..at], event)?;
+        let mut answer = call(rt, alloc, book, board, note, &rows[start..at], event)?;
         told.append(&mut answer)?;
         let _ = book.history();
         start = at + 1;

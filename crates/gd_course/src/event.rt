@@ -164,8 +164,12 @@ fn declare(
     declare_as(alloc, book, Call::Declare, moment, round, cut)
 }
 
-/// Makes the call of a row with the rows of its group before it, and tells it.
-pub(crate) fn make_call(
+/// Makes the call of a row with the rows of its group before it, and tells it: what the machine's step gave, or why it was
+/// refused, after which the book is as before. Lines of a row count from 1.
+///
+/// It asks for a group whose prices and set can be made (`gd_day::check_call`), and for a note of the board. The only error is
+/// want of memory: then the call may have been made, with its posting, and isn't told.
+pub fn call(
     rt: &(impl Threads + Sync),
     alloc: Global,
     book: &mut Book,

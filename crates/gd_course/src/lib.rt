@@ -9,4 +9,5 @@ mod rows;
 mod settle;
 
 pub use course::run;
+pub use event::call;
 pub use rows::tell;

@@ -38,11 +38,11 @@ rows-preserved g c =
     let kept = c.rows.invariant in
     record {
       here = went_on c.args.book.now.day c.args.book.now.history c.args.rows.now c.rows.start c.rows.at c.rows.told.items c.rows.book.history c.index-rows-at.result
-          c.rows-test.true c.index-rows-at.is kept.here c.in-Some.event c.in_ok-answer.answer.items c.append.new.self.items c.make_call.new.book.history
+          c.rows-test.true c.index-rows-at.is kept.here c.in-Some.event c.in_ok-answer.answer.items c.append.new.self.items c.call.new.book.history
           (sym c.event_of.ensures ∙ c.in-Some.is) (rw kept.day at c.in_ok-answer.ensures.gives) c.in_ok-append.ensures.items;
-      day = c.make_call.ensures.day ∙ kept.day;
-      board = c.make_call.ensures.board ∙ kept.board;
-      cells = c.make_call.ensures.board ∙ kept.cells;
-      holds = rw (sym (c.make_call.ensures.day ∙ kept.day)) c.history-in-rows.ensures.holds;
+      day = c.call.ensures.day ∙ kept.day;
+      board = c.call.ensures.board ∙ kept.board;
+      cells = c.call.ensures.board ∙ kept.cells;
+      holds = rw (sym (c.call.ensures.day ∙ kept.day)) c.history-in-rows.ensures.holds;
       posted = λ all. let goes_on = rw kept.day at c.in_ok-answer.ensures.posted in goes_on (kept.posted all);
     }

@@ -3,7 +3,7 @@ use Rattle.gd_day.specs.ElementNames as named
 use Rattle.gd_machine.specs.declared.event.Event.TheVariants as event
 use Rattle.gd_replies.specs.declared.call.Call.TheVariants as call
 use Rattle.gd_course.proofs.Posting.{declared, told}
-use Rattle.gd_course.proofs.event.make_call.Goals as goal
+use Rattle.gd_course.proofs.event.call.Goals as goal
 
 pub returns-in-Nominate-clause-posted : goal.returns-in-Nominate-clause-posted
 returns-in-Nominate-clause-posted g c =
