@@ -1,2 +1,4 @@
+pub mod Entering
 pub mod Fetched
 pub mod Kept
+pub mod Refused

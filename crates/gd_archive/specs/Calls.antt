@@ -1,14 +1,13 @@
 -- What the calls of an archive promise.
-use Rattle.std.specs.Prelude.{◌≡◌, ◌≢◌, ℕ, pos, All, List, [], ⊤, length, take, slice_get, Option, Some, None, Result, Ok, Err, IsPermutation}
+use Rattle.std.specs.Prelude.{◌≡◌, ℕ, pos, All, List, ⊤, length, take, slice_get, Option, Some, None, Result, Ok, Err, IsPermutation}
 use Rattle.sqlite.specs.declared.types.Value.{Value}
 use Rattle.sqlite.specs.declared.types.Value.TheVariants.{Int, Blob}
 use Rattle.sqlite.specs.Order.{Row, column}
 use Rattle.sqlite.specs.State.{State}
-use Rattle.gd_archive_store.specs.Contents.{kept_at, rows_of, IsAscending, entry, IsArchive, IsSame}
+use Rattle.gd_archive_store.specs.Contents.{rows_of, IsAscending, entry, SaysVersion, IsArchive, IsSame}
 use Rattle.gd_archive_store.specs.Calls as store
 use Rattle.gd_archive_store.specs.Migration.{carried}
 use Rattle.gd_archive_store.specs.declared.fault.KeepFault.{KeepFault}
-use Rattle.gd_archive_store.specs.declared.fault.KeepFault.TheVariants as keep_fault
 use Rattle.gd_archive_store.specs.declared.fault.MigrateFault.{MigrateFault}
 use Rattle.gd_board.specs.declared.posting.Posting.{Posting}
 use Rattle.gd_body.specs.Body.{IsBody}
@@ -64,31 +63,31 @@ IsStoreFault f = ⊥
 
 module _ (old new : State) where
   -- The posting is entered under the rule of the spread where there was none of its book and cycle, by a text that reads as
-  -- this very posting; and nothing else changes.
+  -- this very posting; and nothing else changes. A refusal for its text is told only where no other is due.
   abbrev pub Keeps : Posting → Result (Unit {0}) KeepFault → Type 0
-  Keeps p (Ok u) = (body : List ℕ) × IsBody p body × store.Keeps old new p.book p.cycle (entry p.round body 2) (Ok u)
-  Keeps p (Err keep_fault.OldVersion) = IsArchive old.now 1 × IsSame old new
-  Keeps p (Err keep_fault.Kept) = IsArchive old.now 2 × (kept_at old.now p.book p.cycle ≢ []) × IsSame old new
-  Keeps p (Err (keep_fault.Store e)) = IsSame old new
+  Keeps p (Ok u) = (body : List ℕ) × IsBody p body × store.IsKept old new p.book p.cycle (entry p.round body 2)
+  Keeps p (Err fault) = store.IsRefusedFor old new p.book p.cycle fault
 
-  -- what is kept of a book and cycle, if anything is, and nothing changes
+  -- What is kept of a book and cycle, if anything is, and nothing changes. A file of version 1 is refused as such.
   abbrev pub Fetches : List ℕ → ℕ → Result (Option (Rule × Posting)) FetchFault → Type 0
   Fetches book cycle (Ok None) = store.Finds old new book cycle (Ok None)
   Fetches book cycle (Ok (Some found)) = (row : Row) × store.Finds old new book cycle (Ok (Some row)) × Tells book cycle row (Ok found)
-  Fetches book cycle (Err fetch_fault.OldVersion) = IsArchive old.now 1 × IsSame old new
-  Fetches book cycle (Err (fetch_fault.Store e)) = IsSame old new
+  Fetches book cycle (Err fetch_fault.OldVersion) = SaysVersion old.now 1 × IsSame old new
+  Fetches book cycle (Err (fetch_fault.Store e)) = store.IsFailed old new e
   Fetches book cycle (Err fetch_fault.Damaged) =
       (row : Row) × store.Finds old new book cycle (Ok (Some row)) × Tells book cycle row (Err fetch_fault.Damaged)
 
-  -- Each row is sound, and they are counted; or the first that is not is told, of the rows in their order.
+  -- Each row is sound, and they are counted; or the first that is not is told, of the rows in their order. A file of version 1
+  -- is refused as such.
   abbrev pub Audits : Result ℕ AuditFault → Type 0
   Audits (Ok n) = IsArchive old.now 2 × All IsSound (rows_of old.now) × (n ≡ length (rows_of old.now)) × (new.now ≡ old.now)
-  Audits (Err audit_fault.OldVersion) = IsArchive old.now 1 × IsSame old new
-  Audits (Err (audit_fault.Store e)) = IsSame old new
+  Audits (Err audit_fault.OldVersion) = SaysVersion old.now 1 × IsSame old new
+  Audits (Err (audit_fault.Store e)) = store.IsFailed old new e
   Audits (Err (audit_fault.Unsound book cycle what)) =
       IsArchive old.now 2 × (new.now ≡ old.now)
       × ((rows : List Row) × IsPermutation (rows_of old.now) rows × IsAscending rows × BlamesFirst rows (audit_fault.Unsound book cycle what))
 
-  -- Each row of version 1 is carried over, and each posting is kept; or nothing changes.
+  -- Each row of version 1 is carried over, and each posting is kept; or nothing changes. A file of another version is refused
+  -- as such.
   abbrev pub Migrates : Result ℕ MigrateFault → Type 0
   Migrates count = store.Migrates old new rewritten IsCarried count

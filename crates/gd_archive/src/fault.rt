@@ -32,7 +32,7 @@ pub enum Unsound {
 /// Why a posting is not fetched.
 #[derive(Debug, Drop)]
 pub enum FetchFault {
-    /// The archive is of version 1.
+    /// The version is 1, whatever tables stand behind it.
     OldVersion,
     /// The database refused, it is no archive, or its row is none.
     Store(Error),
@@ -43,7 +43,7 @@ pub enum FetchFault {
 /// Why an archive is not found sound.
 #[derive(Debug, Drop)]
 pub enum AuditFault {
-    /// The archive is of version 1.
+    /// The version is 1, whatever tables stand behind it.
     OldVersion,
     /// The database refused, it is no archive, or one of its rows is none.
     Store(Error),

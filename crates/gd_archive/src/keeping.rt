@@ -11,7 +11,7 @@ ghost use Rattle.gd_archive.specs.Soundness as spec;
 use crate::fault::{FetchFault, NO_ARCHIVE, NO_MEMORY, Rule};
 use crate::row::rule_of;
 use crate::sound::posting_at;
-use gd_archive_store::{KeepFault, find, keep as enter};
+use gd_archive_store::{KeepFault, enter, expect_free, find};
 use gd_board::Posting;
 use gd_body::{BodyFault, body_of, without_spread};
 use gd_units::{CycleNo, Name};
@@ -30,9 +30,10 @@ pub(crate) fn cause_of(fault: BodyFault) -> Error {
 ///
 /// # Errors
 ///
-/// `OldVersion` on an archive of version 1; `Kept` where there is a posting of this book and cycle; and else `Store`: the
-/// database refuses, is no archive or is in a transaction of the caller's, memory is wanting, or the posting is none that a
-/// book publishes, so that its text would not read back. After each the database is as before.
+/// `Store` in a transaction of the caller's; then `OldVersion` on an archive of version 1; `Kept` where there is a posting of
+/// this book and cycle; and else `Store`: the database refuses or is no archive, memory is wanting, or the posting is none
+/// that a book publishes, so that its text would not read back. The text is made only where the posting may be kept. After
+/// each the database is as before.
 pub fn keep<S: Alter>(
     conn: &mut Connection<S>,
     alloc: Global,
@@ -42,12 +43,14 @@ pub fn keep<S: Alter>(
         → calls.Keeps (state S.Store conn.old) (state S.Store conn.new) posting.now result }
     ensures clean { HasCleanDisk (state S.Store conn.new) → HasCleanDisk (state S.Store conn.old) }
 {
+    let (book, cycle) = (posting.book.as_str(), u32::from(posting.cycle.number()));
+    expect_free(conn, book, cycle)?;
     let body = match body_of(alloc, posting) {
         Ok(body) => body,
         Err(fault) => return Err(KeepFault::Store(cause_of(fault))),
     };
-    let (cycle, round) = (u32::from(posting.cycle.number()), posting.round.number());
-    enter(conn, posting.book.as_str(), cycle, round, body.as_slice())
+    enter(conn, book, cycle, posting.round.number(), body.as_slice())?;
+    Ok(())
 }
 
 /// The posting as its rule tells it.

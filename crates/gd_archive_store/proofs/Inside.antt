@@ -1,5 +1,5 @@
 -- What a statement inside a transaction keeps.
-use Rattle.std.proofs.Common.{All, map, take, length, get_or, suc, ◌+◌, ◌<◌, ◌++◌, arith, ◌≡◌, ◌⊎◌, inl, inr, ℕ, List, [], Ok, Err, Result, IfOk, IfErr, OnOk, ℤ, pos, ◌∷◌, IsTrue, refl, sym, ap, subst, ◌∙◌}
+use Rattle.std.proofs.Common.{All, map, take, length, get_or, suc, ◌+◌, ◌<◌, ◌++◌, arith, ◌≡◌, ◌⊎◌, inl, inr, ℕ, List, [], Ok, Err, Result, IfOk, IfErr, OnOk, OnErr, ℤ, pos, ◌∷◌, IsTrue, refl, sym, ap, subst, ◌∙◌}
 use Rattle.sqlite.specs.Order.{Row, column}
 use Rattle.sqlite.specs.Effect.{Database}
 use Rattle.sqlite.specs.declared.error.Error.{Error}
@@ -10,22 +10,23 @@ use Rattle.sqlite.specs.Cast.{cast}
 use Rattle.sqlite.specs.Kind.TheVariants.{Integer}
 use Rattle.sqlite.specs.Listing.{understood}
 use Rattle.sqlite.proofs.Callers.{IsPlain}
-use Rattle.gd_archive_store.specs.Contents.{IsRefused}
+use Rattle.sqlite.specs.Steps.{FailsToCommit}
+use Rattle.gd_archive_store.specs.Contents.{IsSame}
 use Rattle.gd_archive_store.proofs.Refusing.{query_refused}
 use Rattle.gd_archive_store.proofs.Finding.{shown_same}
 use Rattle.gd_archive_store.proofs.Inserting.{Enters, enters}
 use Rattle.gd_archive_store.proofs.Texts.{insert_text}
-use Rattle.gd_archive_store.specs.Tables.{archive, posting, posting2, no_schema, only_archive, version_1, version_2}
+use Rattle.gd_archive_store.specs.Tables.{no_schema, version_1, version_2}
 use Rattle.gd_archive_store.specs.Contents.{rows_of, old_rows_of, shown}
-use Rattle.gd_archive_store.proofs.Texts.{archive_is, posting_is, posting2_is, archive_plain, posting_plain, posting2_plain, create_archive_text, create_posting_text, create_posting2_text}
-use Rattle.gd_archive_store.specs.Migration.{IsBuilt, IsOneMore, IsMore, IsMigrated, carried}
+use Rattle.gd_archive_store.specs.Migration.{IsMigrated, carried}
+use Rattle.gd_archive_store.specs.Stages.{IsRefused, IsBuilt, IsOneMore, IsMore}
 use Rattle.std.specs.List.Sorted.{IsPermutation}
 use Rattle.std.proofs.lemmas.List.Sorted.{IsPermutation-refl, IsPermutation-trans, IsPermutation-map, IsPermutation-push_more, IsPermutation-sym, All-permutation, length_permutation}
 use Rattle.std.proofs.lemmas.List.Elements.{All-push}
 use Rattle.std.proofs.lemmas.List.{map-append}
 use Rattle.std.proofs.Math.Seq.{take-suc}
-use Rattle.gd_archive_store.proofs.Texts.{drop_posting_text, drop_archive_text, enter_version_text, without_posting, without_archive}
-use Rattle.gd_archive_store.proofs.Steps.{creates, drops_posting, drops_archive, enters_version}
+use Rattle.gd_archive_store.proofs.Texts.{drop_posting_text, drop_archive_text, without_posting, without_archive}
+use Rattle.gd_archive_store.proofs.Steps.{drops_posting, drops_archive}
 use Rattle.gd_archive_store.proofs.Keys.{rows_more}
 
 unchanged_keeps : (old new : State) → IsUnchanged old new → KeepsCommit old new
@@ -47,22 +48,23 @@ inside_ran sql params old new (Err e) h = tt
 pub keeps_then : (a b c : State) → KeepsCommit a b → KeepsCommit b c → KeepsCommit a c
 keeps_then a b c p q = record { was_open = λ up. p.was_open (q.was_open up); committed = λ up. q.committed up ∙ p.committed (q.was_open up) }
 
+pub keeps_same : (s : State) → KeepsCommit s s
+keeps_same s = record { was_open = λ up. up; committed = λ up. refl }
+
+-- a commit that fails leaves what was there before the transaction
+pub commit_whole : (old begun last new : State) (e : Error) → begun.committed ≡ old.committed → begun.is_open ≡ old.is_open → KeepsCommit begun last → (IsTrue old.is_open → old.now ≡ old.committed) → IsTrue last.in_transaction
+    → FailsToCommit last new e → IsSame old new
+commit_whole old begun last new e committed is_open kept settled inside (inl h) up =
+    let was_last = h.3.was_open up in
+    (h.3.undone up).0 ∙ kept.committed was_last ∙ committed ∙ sym (settled (sym is_open ∙ kept.was_open was_last))
+commit_whole old begun last new e committed is_open kept settled inside (inr h) up = absurd (let no = sym h.1 ∙ inside in cc)
+
+pub on_err : {T E : Type 0} (r : Result T E) (X : Type 0) → X → OnErr r X
+on_err (Ok x) X h = tt
+on_err (Err e) X h = h
+
 pub clears : (a b c : State) (m n : ℕ) → a.now.schema ≡ version_1 → Executes drop_posting_text [] a b (Ok m) → Executes drop_archive_text [] b c (Ok n) → c.now.schema ≡ no_schema
 clears a b c m n has one two = (drops_archive b c n ((drops_posting a b m has one).schema ∙ without_posting) two).schema ∙ without_archive
-
-pub builds : (a b c d e : State) (k l m n : ℕ) → a.now.schema ≡ no_schema → Executes create_archive_text [] a b (Ok k) → Executes create_posting_text [] b c (Ok l) → Executes create_posting2_text [] c d (Ok m)
-    → Executes enter_version_text [] d e (Ok n) → IsBuilt e.now
-builds a b c d e k l m n has h1 h2 h3 h4 =
-    let one = creates create_archive_text no_schema archive archive_is.0 archive_is.1 archive_is.2 archive_plain refl a b k has h1 in
-    let two = creates create_posting_text only_archive posting posting_is.0 posting_is.1 posting_is.2 posting_plain refl b c l one.schema h2 in
-    let three = creates create_posting2_text version_1 posting2 posting2_is.0 posting2_is.1 posting2_is.2 posting2_plain refl c d m two.schema h3 in
-    let four = enters_version d e n three.schema (three.others.0 ∙ two.others.0 ∙ one.empty) h4 in
-    record {
-      schema = four.schema;
-      version = four.version;
-      before = four.before ∙ three.others.1.0 ∙ two.empty;
-      postings = four.postings ∙ three.empty;
-    }
 
 refused_keeps : (old new : State) → IsRefused old new → KeepsCommit old new
 refused_keeps old new (inl same) = unchanged_keeps old new same

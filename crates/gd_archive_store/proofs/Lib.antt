@@ -3,6 +3,8 @@ pub mod Texts
 pub mod Rows
 pub mod Finding
 pub mod Refusing
+pub mod Failing
+pub mod Cutting
 pub mod Reading
 pub mod Inserting
 pub mod Keys
@@ -11,3 +13,5 @@ pub mod Listing
 pub mod Keeping
 pub mod Steps
 pub mod Inside
+pub mod Growing
+pub mod Migrating

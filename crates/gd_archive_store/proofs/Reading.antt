@@ -1,5 +1,5 @@
 -- What a row that is read says of the table.
-use Rattle.std.proofs.Common.{pos, ◌≤◌, ◌<◌, length, get_or, arith, ◌≡◌, ℕ, ℤ, List, [], ◌∷◌, map, refl, sym, ap, subst, ◌∙◌}
+use Rattle.std.proofs.Common.{inl, inr, pos, ◌≤◌, ◌<◌, ◌^◌, Option, Some, None, OnSome, Result, Ok, Err, IfErr, IsErrAnd, length, get_or, arith, ◌≡◌, ℕ, ℤ, List, [], ◌∷◌, map, refl, sym, ap, subst, ◌∙◌}
 use Rattle.std.specs.List.Sorted.{IsPermutation}
 use Rattle.std.proofs.lemmas.List.Sorted.{IsPermutation-sym, length_permutation}
 use Rattle.sqlite.specs.declared.types.Value.TheVariants.{Int}
@@ -8,7 +8,7 @@ use Rattle.sqlite.specs.Effect.{Database}
 use Rattle.sqlite.proofs.Callers.{one_permutation}
 use Rattle.sqlite.specs.Schema.{Schema}
 use Rattle.gd_archive_store.specs.Tables.{version_2, HasArchive}
-use Rattle.gd_archive_store.specs.Contents.{versions_of, HasVersion}
+use Rattle.gd_archive_store.specs.Contents.{versions_of, HasVersion, SaysVersion, IsKnown}
 
 single : (rows : List Row) (row : Row) (n : ℤ) → map (λ r. column r 2 ∷ []) rows ≡ row ∷ [] → column row 0 ≡ Int n → map (λ r. column r 2 ∷ []) rows ≡ (Int n ∷ []) ∷ []
 single [] row n h e = absurd cc
@@ -47,3 +47,21 @@ unread db (r ∷ rows) h none = absurd (omega (arith, none))
 
 pub archive_first : (s : Schema) → s ≡ version_2 → HasArchive s
 archive_first s is = (_, ap (λ (t : Schema). t.tables) is)
+
+-- the rows that are read where the version is known
+pub one_row : (db : Database) (rows : List Row) (n : ℕ) → IsPermutation (versions_of db) rows → HasVersion db n → rows ≡ (Int (pos n) ∷ []) ∷ []
+one_row db rows n shown has = one_permutation (Int (pos n) ∷ []) rows (subst (λ xs. IsPermutation xs rows) has shown)
+
+pub on_some : {X : Type 0} {U : Type 0} (o : Option X) → U → OnSome o U
+on_some None u = tt
+on_some (Some x) u = u
+
+-- a file that is known says a version
+pub known_version : (db : Database) → IsKnown db → (n : ℕ) × (n < 2 ^ 32) × SaysVersion db n
+known_version db (inl says) = (1, omega arith, says)
+known_version db (inr is) = (2, omega arith, record { table = archive_first db.schema is.schema; version = is.version })
+
+-- what is known of the error that a call ends with
+pub err_is : {T E : Type 0} (P : E → Type 0) (r : Result T E) (e : E) → IsErrAnd r (λ f. f ≡ e) → P e → IfErr r P
+err_is P (Ok x) e h p = tt
+err_is P (Err f) e h p = subst P (sym h) p

@@ -1,12 +1,13 @@
 -- What a statement that is refused leaves.
-use Rattle.std.proofs.Common.{◌≡◌, inl, inr, ℕ, List, Bool, true, false, None, Some, Option, Ok, Err, Result, OnErr, MatchBool}
+use Rattle.std.proofs.Common.{◌≡◌, inl, inr, ℕ, List, Bool, true, false, None, Some, Option, Ok, Err, Result, OnErr, MatchBool, sym, ◌∙◌}
 use Rattle.sqlite.specs.Order.{Row}
 use Rattle.sqlite_schema.specs.declared.command.Returning.{Returning}
 use Rattle.sqlite_resolve.specs.declared.compiled.Compiled.{Compiled}
 use Rattle.sqlite.specs.declared.error.Error.{Error}
 use Rattle.sqlite.specs.declared.error.Error.TheVariants.{ExecuteReturnedResults}
 use Rattle.sqlite.specs.State.{State, IsNotRun, IsUnchanged, RunsCommand, Executes, ExecutesIn, FailsToQuery, FailsToShow}
-use Rattle.gd_archive_store.specs.Contents.{IsRefused}
+use Rattle.gd_archive_store.specs.Contents.{IsSettled, IsSame}
+use Rattle.gd_archive_store.specs.Stages.{IsRefused}
 
 not_run : (old new : State) (sql : List ℕ) (params : Row) (e : Error) → IsNotRun old new sql params e → IsRefused old new
 unfolding IsNotRun
@@ -38,3 +39,12 @@ query_refused old new sql params e (inr h) = show_refused old new sql h.0 _ e _ 
 pub execute_error : (old new : State) (sql : List ℕ) (params : Row) (r : Result ℕ Error) → Executes sql params old new r → OnErr r (IsRefused old new)
 execute_error old new sql params (Ok n) h = tt
 execute_error old new sql params (Err e) h = execute_refused old new sql params e h
+
+-- outside a transaction what was refused left all as it was
+pub same_after : (old new : State) → IsSettled old → IsRefused old new → IsSame old new
+same_after old new settled (inl h) up = h.0.now_is
+same_after old new settled (inr h) up = (h.undone up).0 ∙ sym settled.now
+
+pub refused_same : (old new : State) (r : Result ℕ Error) → IsSettled old → OnErr r (IsRefused old new) → OnErr r (IsSame old new)
+refused_same old new (Ok n) settled h = tt
+refused_same old new (Err e) settled h = same_after old new settled h

@@ -1,5 +1,5 @@
 -- What the statements of `make` and `migrate` do.
-use Rattle.std.proofs.Common.{◌≡◌, ◌≢◌, ℕ, pos, List, None, [], ◌∷◌, map, Ok, Err, Result, OnOk, false, if◌then◌else◌, refl, sym, ap, subst, ◌∙◌}
+use Rattle.std.proofs.Common.{◌≡◌, ◌≢◌, ℕ, pos, List, None, [], ◌∷◌, map, Ok, false, if◌then◌else◌, refl, sym, ap, subst, ◌∙◌}
 use Rattle.std.specs.List.Sorted.{IsPermutation}
 use Rattle.std.proofs.lemmas.List.Sorted.{IsPermutation-map}
 use Rattle.sqlite.specs.declared.types.Value.TheVariants.{Null, Int}
@@ -20,8 +20,6 @@ use Rattle.sqlite.specs.State.{State, Shown, IsUnchanged, Writes, mode_of, Execu
 use Rattle.sqlite.specs.Listing.{understood}
 use Rattle.sqlite.proofs.Callers.{IsPlain, command_of, statement_of, runs_as, reads_as, one_step}
 use Rattle.gd_archive_store.specs.Tables.{archive, only_archive, version_1, version_2}
-use Rattle.sqlite.specs.declared.error.Error.{Error}
-use Rattle.gd_archive_store.specs.Calls.{IsCompleted}
 use Rattle.gd_archive_store.specs.Contents.{HasVersion, shown_old, old_rows_of}
 use Rattle.gd_archive_store.proofs.Inserting.{went, same_value, cast_int, cast_null}
 use Rattle.std.specs.List.{flat_map, list_all}
@@ -98,12 +96,6 @@ pub record EntersVersion (old new : Database) : Type 0 where
   pub before : new.trees 1 ≡ old.trees 1
   pub postings : new.trees 3 ≡ old.trees 3
 
--- outside a transaction it is committed
-pub version_commits : (old new : State) (count : ℕ) → old.now.schema ≡ version_2 → old.in_transaction ≡ false → Executes enter_version_text [] old new (Ok count) → new.committed ≡ new.now
-version_commits old new count has mode h =
-    let w = runs_as enter_version_text [] old new version_2 has (Insert 0 (Values version_terms 3)) enter_version_is.0 enter_version_is.1 count h in
-    w.shown.committed_is ∙ rw mode refl
-
 none_is_1 : ◌≢◌ {A = ℕ} 1 0
 none_is_1 e = cc
 
@@ -160,10 +152,3 @@ shows_all old new rows has h =
       subst (IsPermutation (old_rows_of old.now)) (sym a.shown) (subst (λ xs. IsPermutation xs (map (λ (o : Output). o.1) a.ordered)) texts same),
       shown_same old_text [] old new rows (subst (λ s. IsPlain (understood s old_text)) (sym has) old_is.2) h,
     )
-
--- what entering the version outside a transaction does
-pub completes : (old new : State) (r : Result ℕ Error) → old.now.schema ≡ version_2 → old.now.trees 0 ≡ [] → old.in_transaction ≡ false → Executes enter_version_text [] old new r → OnOk r (IsCompleted old new)
-completes old new (Err e) has none mode h = tt
-completes old new (Ok n) has none mode h =
-    let it = enters_version old new n has none h in
-    (has, none, record { schema = it.schema; version = it.version }, it.before, it.postings, version_commits old new n has mode h)

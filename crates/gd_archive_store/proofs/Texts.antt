@@ -4,7 +4,7 @@ use Rattle.sqlite.specs.Collation.TheVariants.{Binary}
 use Rattle.sqlite_sql.specs.declared.ops.BinaryOp.TheVariants.{Compare}
 use Rattle.sqlite_sql.specs.declared.ops.CompareOp.TheVariants.{Eq}
 use Rattle.sqlite_sql.specs.declared.ops.UnaryOp.TheVariants.{ToNumeric}
-use Rattle.sqlite.specs.declared.types.Value.TheVariants.{Null, Int}
+use Rattle.sqlite.specs.declared.types.Value.TheVariants.{Null, Int, Text as Words}
 use Rattle.sqlite.specs.Compile.{table_defined_by}
 use Rattle.sqlite.specs.Schema.{Schema}
 use Rattle.sqlite.specs.Table.{Table}
@@ -19,6 +19,7 @@ use Rattle.sqlite.specs.Change.{without_table}
 use Rattle.sqlite_tied.specs.Compute.{everything}
 use Rattle.sqlite.specs.Listing.{understood, reads_listing}
 use Rattle.sqlite.proofs.Callers.{IsPlain, command_of, statement_of}
+use Rattle.gd_archive_store.proofs.Failing.{Fits}
 use Rattle.gd_archive_store.specs.Tables.{no_schema, archive, posting, posting2, only_archive, version_1, version_2}
 
 abbrev pub create_archive_text : List ℕ
@@ -185,3 +186,16 @@ pub all_is : (command_of (understood version_2 all_text) ≡ Select (record { le
     × IsPlain (understood version_2 all_text)
 unfolding understood everything
 all_is = (refl, refl, (refl, refl))
+
+-- each query is the whole text, and takes the parameters that it is given
+pub version_fits : (tables : List Table) (indexes : List Index) (views : List View) → Fits version_text [] (understood (record { tables = archive ∷ tables; indexes = indexes; views = views }) version_text)
+unfolding understood everything
+version_fits tables indexes views = (refl, refl)
+
+pub find_fits : (book : List ℕ) (cycle : ℕ) → Fits find_text (Words book ∷ Int (pos cycle) ∷ []) (understood version_2 find_text)
+unfolding understood everything
+find_fits book cycle = (refl, refl)
+
+pub all_fits : Fits all_text [] (understood version_2 all_text)
+unfolding understood everything
+all_fits = (refl, refl)

@@ -1,17 +1,18 @@
 -- What an archive keeps.
-use Rattle.std.specs.Prelude.{◌≡◌, ◌≢◌, ℕ, pos, Bool, ◌&&◌, ◌⊎◌, ◌==◌, if◌then◌else◌, false, IsTrue, ◌<◌, length, slice_index_or, List, [], ◌∷◌, map, filter, IsPermutation}
+use Rattle.std.specs.Prelude.{◌≡◌, ◌≢◌, ℕ, pos, Bool, ◌&&◌, ◌⊎◌, ◌==◌, ◌^◌, if◌then◌else◌, false, IsTrue, ◌<◌, length, slice_index_or, List, [], ◌∷◌, map, filter, IsPermutation}
 use Rattle.std.specs.declared.cmp.Ordering.{Ordering}
 use Rattle.std.specs.Ordering.{is_lt, on, then_cmp}
 use Rattle.sqlite.specs.Collation.TheVariants.{Binary}
 use Rattle.sqlite.specs.declared.types.Value.TheVariants.{Int, Text, Blob}
 use Rattle.sqlite.specs.Order.{Row, column, value_cmp}
 use Rattle.sqlite.specs.Effect.{Database}
-use Rattle.sqlite.specs.State.{State, IsUnchanged, IsRolledBack}
+use Rattle.sqlite.specs.State.{State, store_error}
+use Rattle.sqlite.specs.declared.error.Error.{Error}
+use Rattle.sqlite.specs.declared.error.Error.TheVariants.{SqliteFailure}
+use Rattle.sqlite.specs.declared.error.ErrorCode.TheVariants.{OperationInterrupted, OutOfMemory}
 use Rattle.sqlite.specs.Schema.{Schema}
 use Rattle.sqlite_schema.specs.Rules.{equal}
-use Rattle.gd_archive_store.specs.Tables.{version_1, version_2}
-use Rattle.gd_archive_store.specs.declared.fault.Version.{Version}
-use Rattle.gd_archive_store.specs.declared.fault.Version.TheVariants.{First, Second, Other}
+use Rattle.gd_archive_store.specs.Tables.{version_1, version_2, HasArchive}
 
 -- the version's column
 abbrev pub versions_of : Database → List Row
@@ -30,11 +31,10 @@ pub record IsArchive (db : Database) (n : ℕ) : Type 0 where
   pub schema : db.schema ≡ tables_of n
   pub version : HasVersion db n
 
--- what a version that was read says of the database
-abbrev pub IsOf : Version → Database → Type 0
-IsOf First db = IsArchive db 1
-IsOf Second db = IsArchive db 2
-IsOf Other db = (n : ℕ) × HasVersion db n × (n ≢ 1)
+-- the version's table stands first, and says this version
+pub record SaysVersion (db : Database) (n : ℕ) : Type 0 where
+  pub table : HasArchive db.schema
+  pub version : HasVersion db n
 
 -- the book, the cycle, the round, the body and the rule of a stored row of version 2
 abbrev pub shown : Row → Row
@@ -85,10 +85,6 @@ pub record IsEntered (old new : Database) (book : List ℕ) (cycle : ℕ) (kept 
   pub version : new.trees 0 ≡ old.trees 0
   pub before : new.trees 1 ≡ old.trees 1
 
--- a statement that was refused left the database as it was, or undid the transaction
-abbrev pub IsRefused : State → State → Type 0
-IsRefused old new = IsUnchanged old new ⊎ IsRolledBack old new
-
 -- no transaction is open, so all is committed
 pub record IsSettled (s : State) : Type 0 where
   pub mode : s.in_transaction ≡ false
@@ -97,3 +93,19 @@ pub record IsSettled (s : State) : Type 0 where
 -- unless the disk has shut the connection, the database is as it was
 abbrev pub IsSame : State → State → Type 0
 IsSame old new = IsTrue new.is_open → new.now ≡ old.now
+
+-- a failure of the store, want of memory or the limit on steps cut a query off
+abbrev pub IsCutOff : Error → Type 0
+IsCutOff e = ((cause : _) × (e ≡ store_error cause)) ⊎ ((e ≡ SqliteFailure OutOfMemory) ⊎ (e ≡ SqliteFailure OperationInterrupted))
+
+-- the caller's own transaction, or what cuts a query off, kept a file from being read
+abbrev pub IsHindered : State → Error → Type 0
+IsHindered s e = IsTrue s.in_transaction ⊎ IsCutOff e
+
+-- the file is of version 1, or an archive of version 2
+abbrev pub IsKnown : Database → Type 0
+IsKnown db = SaysVersion db 1 ⊎ IsArchive db 2
+
+-- the file says a version that a u32 holds and that is not 1
+abbrev pub SaysOther : Database → Type 0
+SaysOther db = (n : ℕ) × (n < 2 ^ 32) × (n ≢ 1) × SaysVersion db n

@@ -1,5 +1,5 @@
 -- The tables of an archive, as their texts define them.
-use Rattle.std.specs.Prelude.{◌≡◌, true, false, [], ◌∷◌, None, Some, codes, List, ℕ, ℤ, ◌+◌, pos, Bool}
+use Rattle.std.specs.Prelude.{◌≡◌, true, false, [], ◌∷◌, None, Some, codes, List, ℕ, zero, suc, ℤ, ◌+◌, pos, Bool}
 use Rattle.sqlite.specs.Collation.TheVariants.{Binary}
 use Rattle.sqlite.specs.declared.types.Value.TheVariants.{Null, Int}
 use Rattle.sqlite.specs.Table.{Table}
@@ -124,6 +124,19 @@ version_1 = created only_archive posting
 -- the tables of version 2: the postings are in tree 3, and their key in tree 4
 abbrev pub version_2 : Schema
 version_2 = created version_1 posting2
+
+-- the tables that `make` makes, in their order, as far as there are so many of them
+abbrev pub first_tables : ℕ → Schema
+first_tables zero = no_schema
+first_tables (suc zero) = only_archive
+first_tables (suc (suc zero)) = version_1
+first_tables (suc (suc (suc n))) = version_2
+
+-- the tree of each of these tables
+abbrev pub tree_of : ℕ → ℕ
+tree_of zero = 0
+tree_of (suc zero) = 1
+tree_of (suc (suc n)) = 3
 
 -- the version's table stands first, as in each version
 abbrev pub HasArchive : Schema → Type 0

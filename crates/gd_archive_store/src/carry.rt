@@ -10,12 +10,14 @@ ghost use Rattle.sqlite.specs.Held.{state};
 ghost use Rattle.sqlite.specs.State.{HasCleanDisk, IsUnchanged, KeepsCommit};
 ghost use Rattle.gd_archive_store.specs.Tables.{no_schema, version_1, version_2};
 ghost use Rattle.gd_archive_store.specs.Contents.{old_rows_of, IsSame};
-ghost use Rattle.gd_archive_store.specs.Migration.{IsBuilt, IsOneMore, IsMore, IsMigrated, carried};
+ghost use Rattle.gd_archive_store.specs.Migration.{IsMigrated, carried};
+ghost use Rattle.gd_archive_store.specs.Stages.{IsBuilt, IsOneMore, IsMore};
 ghost use Rattle.gd_archive_store.specs.Calls.{Migrates};
 
 use crate::build::{build_tables, run};
-use crate::fault::{MigrateFault, Version};
-use crate::version::version_of;
+use crate::fault::MigrateFault;
+use crate::tables::is_version_1;
+use crate::version::{NO_ARCHIVE, version_found};
 use sqlite::types::Value;
 use sqlite::{Alter, Connection, Error, ErrorCode, Row, Transaction, params};
 
@@ -214,9 +216,15 @@ pub fn migrate<S: Alter, R: Rewrite>(conn: &mut Connection<S>, how: &R) -> Resul
         → Migrates (state S.Store conn.old) new R.Rewrite.rewritten R.Rewrite.IsHeld result }
     ensures clean { HasCleanDisk (state S.Store conn.new) → HasCleanDisk (state S.Store conn.old) }
 {
-    match version_of(conn)? {
-        Version::First => {}
-        Version::Second | Version::Other => return Err(MigrateFault::OtherVersion),
+    let is_first = is_version_1(conn.schema());
+    let Some(number) = version_found(conn)? else {
+        return Err(MigrateFault::Store(NO_ARCHIVE));
+    };
+    if number != 1 {
+        return Err(MigrateFault::OtherVersion);
+    }
+    if !is_first {
+        return Err(MigrateFault::Store(NO_ARCHIVE));
     }
     let count = carry_all(conn, how)?;
     Ok(count as u64)

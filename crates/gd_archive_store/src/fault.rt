@@ -1,22 +1,11 @@
-//! The versions of an archive, and why a call is refused.
+//! Why a call is refused.
 
 use sqlite::Error;
-
-/// The version of an archive.
-#[derive(Clone, Copy, Debug, PartialEq, Eq)]
-pub enum Version {
-    /// Version 1, whose postings have no rule.
-    First,
-    /// Version 2, whose postings have each its rule.
-    Second,
-    /// A version that is neither, or version 2 with tables that are not its own.
-    Other,
-}
 
 /// Why a call is refused that makes an archive or reads one.
 #[derive(Debug, Drop)]
 pub enum StoreFault {
-    /// The archive is of version 1.
+    /// The version is 1, whatever tables stand behind it.
     OldVersion,
     /// The file is no archive of version 1 or 2, the call is inside the caller's own transaction, or SQL failed.
     Store(Error),
@@ -25,7 +14,7 @@ pub enum StoreFault {
 /// Why a posting is not kept.
 #[derive(Debug, Drop)]
 pub enum KeepFault {
-    /// The archive is of version 1.
+    /// The version is 1, whatever tables stand behind it.
     OldVersion,
     /// There is a posting of this book and cycle.
     Kept,
@@ -36,10 +25,10 @@ pub enum KeepFault {
 /// Why an archive is not migrated.
 #[derive(Debug, Drop)]
 pub enum MigrateFault {
-    /// The version is not 1.
+    /// The version is not 1, whatever tables stand behind it.
     OtherVersion,
-    /// The file is no archive, a row has no book or no cycle, the call is inside the caller's own transaction, SQL failed,
-    /// or a body could not be rewritten.
+    /// The file is no archive of version 1, a row has no book or no cycle, the call is inside the caller's own transaction,
+    /// SQL failed, or a body could not be rewritten.
     Store(Error),
 }
 

@@ -11,9 +11,11 @@
 //!     rule INTEGER NOT NULL CHECK (rule IN (1, 2)), PRIMARY KEY (book, cycle))
 //! ```
 //!
-//! where `archive` has the one row 1, 2 and `posting` is empty. Version 1 has the row 1, 1, its postings in `posting`, and
-//! no `posting2`. Each call reads the tables of the file that it is given and the version, and refuses any other file. A
-//! call is a transaction of its own: it is refused inside the caller's, and what it changes is committed when it answers.
+//! where `archive` has the one row 1, 2 and `posting` is read no longer. Version 1 has the row 1, 1, its postings in
+//! `posting`, and no `posting2`. Each call reads the tables of the file that it is given and the version, and refuses any
+//! other file; `make` completes one that has no more than the first of these tables, or no version. The version is read
+//! wherever `archive` stands first, and if it has one row, what that says is told before anything else of the file. A call
+//! is a transaction of its own: it is refused inside the caller's, and what it changes is committed when it answers.
 #![tactic(auto)]
 
 mod build;
@@ -26,6 +28,6 @@ mod version;
 
 pub use build::make;
 pub use carry::{Rewrite, migrate};
-pub use entry::keep;
-pub use fault::{KeepFault, MigrateFault, StoreFault, Version};
+pub use entry::{enter, expect_free};
+pub use fault::{KeepFault, MigrateFault, StoreFault};
 pub use lookup::{all, find};

@@ -4,7 +4,8 @@ ghost use Rattle.std.specs.Prelude.{◌≡◌, Err, IsTrue, IfOk, IfErr, OnErr, 
 ghost use Rattle.sqlite.specs.Held.{state};
 ghost use Rattle.sqlite.specs.State.{HasCleanDisk, IsUnchanged};
 ghost use Rattle.gd_archive_store.specs.Tables.{version_2};
-ghost use Rattle.gd_archive_store.specs.Contents.{kept_at, rows_of, IsAscending, IsRefused};
+ghost use Rattle.gd_archive_store.specs.Contents.{kept_at, rows_of, IsAscending, IsCutOff};
+ghost use Rattle.gd_archive_store.specs.Stages.{IsRefused};
 ghost use Rattle.gd_archive_store.specs.Calls.{Finds, IsListed, IsStopped};
 
 use crate::fault::StoreFault;
@@ -23,6 +24,8 @@ pub(crate) fn rows_at<S: Alter>(
         × IsUnchanged old new) }
     ensures refused { let old = state S.Store conn.old in let new = state S.Store conn.new in
         HasCleanDisk new → OnErr result (IsRefused old new) }
+    ensures cut_off { HasCleanDisk (state S.Store conn.new) → conn.old.schema ≡ version_2
+        → IfErr result IsCutOff }
     ensures clean { HasCleanDisk (state S.Store conn.new) → HasCleanDisk (state S.Store conn.old) }
 {
     conn.query_all(
@@ -39,6 +42,8 @@ fn all_rows<S: Alter>(conn: &mut Connection<S>) -> Result<Vec<Row>, Error>
         × IsAscending rows.items × IsUnchanged old new) }
     ensures refused { let old = state S.Store conn.old in let new = state S.Store conn.new in
         HasCleanDisk new → OnErr result (IsRefused old new) }
+    ensures cut_off { HasCleanDisk (state S.Store conn.new) → conn.old.schema ≡ version_2
+        → IfErr result IsCutOff }
     ensures clean { HasCleanDisk (state S.Store conn.new) → HasCleanDisk (state S.Store conn.old) }
 {
     conn.query_all(

@@ -1,8 +1,8 @@
 //! The tables of an archive, told from those of any other file.
 
-ghost use Rattle.std.specs.Prelude.{codes, ◌<◌, ◌≡◌, ℕ, suc, IsTrue, [], ◌∷◌, None, Some, pos};
-ghost use Rattle.sqlite_schema.specs.Code.{term_to};
-ghost use Rattle.gd_archive_store.specs.Tables.{plain_column, is_number, is_rule, key_index, archive, posting, posting2, archive_columns, posting_columns, posting2_columns, IsPlain, IsKeyed, no_schema, version_1, version_2, HasArchive};
+ghost use Rattle.std.specs.Prelude.{codes, ◌<◌, ◌≤◌, ◌≡◌, ◌≢◌, ◌↔◌, ℕ, IsTrue, IfSome, [], ◌∷◌, None, Some, pos};
+ghost use Rattle.gd_archive_store.specs.Nodes.{node, IsNumber, IsRule};
+ghost use Rattle.gd_archive_store.specs.Tables.{plain_column, is_number, is_rule, key_index, archive, posting, posting2, archive_columns, posting_columns, posting2_columns, IsPlain, IsKeyed, no_schema, only_archive, version_1, version_2, first_tables, HasArchive};
 
 use sqlite_items::Items;
 use sqlite_schema::code::{Op, Terms};
@@ -13,7 +13,7 @@ use sqlite_value::value::Value;
 
 /// Whether the column has this name and affinity, no default, and the order of its bytes.
 fn is_column(column: &Column, name: &str, kind: Kind, not_null: bool) -> bool
-    ensures { IsTrue result → column.now ≡ plain_column name.now kind not_null }
+    ensures { IsTrue result ↔ (column.now ≡ plain_column name.now kind not_null) }
 {
     column.name.as_slice() == name.as_bytes()
         && column.kind == kind
@@ -23,36 +23,70 @@ fn is_column(column: &Column, name: &str, kind: Kind, not_null: bool) -> bool
         && column.collation == Collation::Binary
 }
 
+/// Whether the node at this place is the column of this number.
+fn is_place(nodes: &[Op], at: usize, place: usize) -> bool
+    ensures { IsTrue result ↔ (node nodes.now at ≡ Op.Column 1 place) }
+{
+    match nodes.get(at) {
+        Some(Op::Column(slot, column)) => *slot == 1 && *column == place,
+        _ => false,
+    }
+}
+
+/// Whether the node at this place is this number.
+fn is_literal(nodes: &[Op], at: usize, number: i64) -> bool
+    ensures { IsTrue result ↔ (node nodes.now at ≡ Op.Literal (Value.Int number)) }
+{
+    match nodes.get(at) {
+        Some(Op::Literal(Value::Int(value))) => *value == number,
+        _ => false,
+    }
+}
+
+/// The places of the operands of the node at this place, if it is of this operation.
+fn operands(nodes: &[Op], at: usize, op: BinaryOp) -> Option<(usize, usize)>
+    ensures some { IfSome result (λ it. node nodes.now at ≡ Op.Binary op it.0 it.1) }
+    ensures none { result ≡ None → (a b : ℕ) → node nodes.now at ≢ Op.Binary op a b }
+{
+    match nodes.get(at) {
+        Some(Op::Binary(found, first, second)) => {
+            if *found == op {
+                Some((*first, *second))
+            } else {
+                None
+            }
+        }
+        _ => None,
+    }
+}
+
 /// Whether the node at this place asks that the column be this number.
 fn is_number(nodes: &[Op], at: usize, place: usize, number: i64) -> bool
-    ensures { IsTrue result → (depth : ℕ) → term_to nodes.now (suc (suc depth)) at ≡ is_number place number }
+    ensures { IsTrue result ↔ IsNumber nodes.now at place number }
 {
-    let Some(Op::Binary(BinaryOp::Compare(CompareOp::Eq, Collation::Binary), left, right)) =
-        nodes.get(at) else {
-        return false;
-    };
-    let Some(Op::Column(1, column)) = nodes.get(*left) else {
-        return false;
-    };
-    let Some(Op::Literal(Value::Int(value))) = nodes.get(*right) else {
-        return false;
-    };
-    *column == place && *value == number
+    match operands(
+        nodes,
+        at,
+        BinaryOp::Compare(CompareOp::Eq, Collation::Binary),
+    ) {
+        Some((left, right)) => is_place(nodes, left, place) && is_literal(nodes, right, number),
+        None => false,
+    }
 }
 
 /// Whether the node at this place asks that the rule be 1 or 2.
 fn is_rule(nodes: &[Op], at: usize) -> bool
-    ensures { IsTrue result → (depth : ℕ) → term_to nodes.now (suc (suc (suc depth))) at ≡ is_rule }
+    ensures { IsTrue result ↔ IsRule nodes.now at }
 {
-    let Some(Op::Binary(BinaryOp::Or, first, second)) = nodes.get(at) else {
-        return false;
-    };
-    is_number(nodes, *first, 5, 1) && is_number(nodes, *second, 5, 2)
+    match operands(nodes, at, BinaryOp::Or) {
+        Some((first, second)) => is_number(nodes, first, 5, 1) && is_number(nodes, second, 5, 2),
+        None => false,
+    }
 }
 
 /// Whether the one check is that the rule be 1 or 2.
 fn checks_rule(checks: &Terms) -> bool
-    ensures { IsTrue result → checks.now ≡ is_rule ∷ [] }
+    ensures { IsTrue result ↔ (checks.now ≡ is_rule ∷ []) }
 {
     let nodes = checks.nodes.as_slice();
     let [root] = checks.roots.as_slice() else {
@@ -66,7 +100,7 @@ fn checks_rule(checks: &Terms) -> bool
 
 /// Whether the one check is that the version's row be row 1.
 fn checks_one(checks: &Terms) -> bool
-    ensures { IsTrue result → checks.now ≡ is_number 0 (pos 1) ∷ [] }
+    ensures { IsTrue result ↔ (checks.now ≡ is_number 0 (pos 1) ∷ []) }
 {
     let nodes = checks.nodes.as_slice();
     let [root] = checks.roots.as_slice() else {
@@ -80,14 +114,14 @@ fn checks_one(checks: &Terms) -> bool
 
 /// Whether there is no check at all.
 fn has_no_term(terms: &Terms) -> bool
-    ensures { IsTrue result → terms.now ≡ [] }
+    ensures { IsTrue result ↔ (terms.now ≡ []) }
 {
     terms.roots.is_empty()
 }
 
 /// Whether the table has this name and tree, and neither references nor computed defaults.
 fn is_plain(table: &Table, name: &str, tree: u32) -> bool
-    ensures { IsTrue result → IsPlain name.now tree table.now }
+    ensures { IsTrue result ↔ IsPlain name.now tree table.now }
 {
     table.name.as_slice() == name.as_bytes()
         && table.tree == tree
@@ -101,7 +135,7 @@ fn is_plain(table: &Table, name: &str, tree: u32) -> bool
 
 /// Whether the places are those of book and cycle.
 fn is_key(places: &[usize]) -> bool
-    ensures { IsTrue result → places.now ≡ 1 ∷ 2 ∷ [] }
+    ensures { IsTrue result ↔ (places.now ≡ 1 ∷ 2 ∷ []) }
 {
     let [first, second] = places else {
         return false;
@@ -111,7 +145,7 @@ fn is_key(places: &[usize]) -> bool
 
 /// Whether the one key is of book and cycle.
 fn are_keys(uniques: &[Items<usize>]) -> bool
-    ensures { IsTrue result → uniques.now ≡ (1 ∷ 2 ∷ []) ∷ [] }
+    ensures { IsTrue result ↔ (uniques.now ≡ (1 ∷ 2 ∷ []) ∷ []) }
 {
     let [unique] = uniques else {
         return false;
@@ -121,7 +155,7 @@ fn are_keys(uniques: &[Items<usize>]) -> bool
 
 /// Whether the one key ascends by the bytes of its values.
 fn are_ascending(orders: &[Order]) -> bool
-    ensures { IsTrue result → orders.now ≡ (record { digits = 0 }) ∷ [] }
+    ensures { IsTrue result ↔ (orders.now ≡ (record { digits = 0 }) ∷ []) }
 {
     let [order] = orders else {
         return false;
@@ -131,7 +165,7 @@ fn are_ascending(orders: &[Order]) -> bool
 
 /// Whether the table has the key of book and cycle, and no other.
 fn is_keyed(table: &Table) -> bool
-    ensures { IsTrue result → IsKeyed table.now }
+    ensures { IsTrue result ↔ IsKeyed table.now }
 {
     table.key.is_none()
         && is_key(table.primary.as_slice())
@@ -140,7 +174,7 @@ fn is_keyed(table: &Table) -> bool
 }
 
 fn are_archive_columns(columns: &[Column]) -> bool
-    ensures { IsTrue result → columns.now ≡ archive_columns }
+    ensures { IsTrue result ↔ (columns.now ≡ archive_columns) }
 {
     let [one, version] = columns else {
         return false;
@@ -150,7 +184,7 @@ fn are_archive_columns(columns: &[Column]) -> bool
 }
 
 fn are_posting_columns(columns: &[Column]) -> bool
-    ensures { IsTrue result → columns.now ≡ posting_columns }
+    ensures { IsTrue result ↔ (columns.now ≡ posting_columns) }
 {
     let [book, cycle, round, body] = columns else {
         return false;
@@ -162,7 +196,7 @@ fn are_posting_columns(columns: &[Column]) -> bool
 }
 
 fn are_posting2_columns(columns: &[Column]) -> bool
-    ensures { IsTrue result → columns.now ≡ posting2_columns }
+    ensures { IsTrue result ↔ (columns.now ≡ posting2_columns) }
 {
     let [shared @ .., rule] = columns else {
         return false;
@@ -172,7 +206,7 @@ fn are_posting2_columns(columns: &[Column]) -> bool
 
 /// Whether the one place is the rowid's.
 fn is_rowid(places: &[usize]) -> bool
-    ensures { IsTrue result → places.now ≡ 0 ∷ [] }
+    ensures { IsTrue result ↔ (places.now ≡ 0 ∷ []) }
 {
     let [place] = places else {
         return false;
@@ -181,7 +215,7 @@ fn is_rowid(places: &[usize]) -> bool
 }
 
 fn is_archive_table(table: &Table) -> bool
-    ensures { IsTrue result → table.now ≡ archive }
+    ensures { IsTrue result ↔ (table.now ≡ archive) }
 {
     is_plain(table, "archive", 0)
         && are_archive_columns(table.columns.as_slice())
@@ -193,7 +227,7 @@ fn is_archive_table(table: &Table) -> bool
 }
 
 fn is_posting_table(table: &Table) -> bool
-    ensures { IsTrue result → table.now ≡ record posting { tree = 1 } }
+    ensures { IsTrue result ↔ (table.now ≡ record posting { tree = 1 }) }
 {
     is_plain(table, "posting", 1)
         && are_posting_columns(table.columns.as_slice())
@@ -202,7 +236,7 @@ fn is_posting_table(table: &Table) -> bool
 }
 
 fn is_posting2_table(table: &Table) -> bool
-    ensures { IsTrue result → table.now ≡ record posting2 { tree = 3 } }
+    ensures { IsTrue result ↔ (table.now ≡ record posting2 { tree = 3 }) }
 {
     is_plain(table, "posting2", 3)
         && are_posting2_columns(table.columns.as_slice())
@@ -213,7 +247,7 @@ fn is_posting2_table(table: &Table) -> bool
 /// Whether the index is what SQL makes of the key of this table, and keeps in the tree after it.
 fn is_key_index(index: &Index, name: &str, table: u32) -> bool
     requires { table < 4 }
-    ensures { IsTrue result → index.now ≡ key_index name.now table }
+    ensures { IsTrue result ↔ (index.now ≡ key_index name.now table) }
 {
     index.name.as_slice() == name.as_bytes()
         && index.tree == table + 1
@@ -224,14 +258,14 @@ fn is_key_index(index: &Index, name: &str, table: u32) -> bool
 }
 
 /// Whether there is no table at all.
-pub(crate) fn is_empty(schema: &Schema) -> bool
-    ensures { IsTrue result → schema.now ≡ no_schema }
+fn is_empty(schema: &Schema) -> bool
+    ensures { IsTrue result ↔ (schema.now ≡ no_schema) }
 {
     schema.tables.is_empty() && schema.indexes.is_empty() && schema.views.is_empty()
 }
 
 fn are_tables_1(tables: &[Table]) -> bool
-    ensures { IsTrue result → tables.now ≡ archive ∷ (record posting { tree = 1 }) ∷ [] }
+    ensures { IsTrue result ↔ (tables.now ≡ archive ∷ (record posting { tree = 1 }) ∷ []) }
 {
     let [archive, posting] = tables else {
         return false;
@@ -240,7 +274,7 @@ fn are_tables_1(tables: &[Table]) -> bool
 }
 
 fn are_tables_2(tables: &[Table]) -> bool
-    ensures { IsTrue result → tables.now ≡ archive ∷ (record posting { tree = 1 }) ∷ (record posting2 { tree = 3 }) ∷ [] }
+    ensures { IsTrue result ↔ (tables.now ≡ archive ∷ (record posting { tree = 1 }) ∷ (record posting2 { tree = 3 }) ∷ []) }
 {
     let [archive, posting, posting2] = tables else {
         return false;
@@ -249,7 +283,7 @@ fn are_tables_2(tables: &[Table]) -> bool
 }
 
 fn are_indexes_1(indexes: &[Index]) -> bool
-    ensures { IsTrue result → indexes.now ≡ key_index (codes "sqlite_autoindex_posting_1") 1 ∷ [] }
+    ensures { IsTrue result ↔ (indexes.now ≡ key_index (codes "sqlite_autoindex_posting_1") 1 ∷ []) }
 {
     let [key] = indexes else {
         return false;
@@ -258,8 +292,8 @@ fn are_indexes_1(indexes: &[Index]) -> bool
 }
 
 fn are_indexes_2(indexes: &[Index]) -> bool
-    ensures { IsTrue result → indexes.now ≡ key_index (codes "sqlite_autoindex_posting_1") 1
-        ∷ key_index (codes "sqlite_autoindex_posting2_1") 3 ∷ [] }
+    ensures { IsTrue result ↔ (indexes.now ≡ key_index (codes "sqlite_autoindex_posting_1") 1
+        ∷ key_index (codes "sqlite_autoindex_posting2_1") 3 ∷ []) }
 {
     let [key, key2] = indexes else {
         return false;
@@ -270,7 +304,7 @@ fn are_indexes_2(indexes: &[Index]) -> bool
 
 /// Whether the version's table stands first, as in each version.
 pub(crate) fn has_archive(schema: &Schema) -> bool
-    ensures { IsTrue result → HasArchive schema.now }
+    ensures { IsTrue result ↔ HasArchive schema.now }
 {
     let [archive, ..] = schema.tables.as_slice() else {
         return false;
@@ -278,9 +312,19 @@ pub(crate) fn has_archive(schema: &Schema) -> bool
     is_archive_table(archive)
 }
 
+/// Whether the version's table is the only one.
+fn is_only_archive(schema: &Schema) -> bool
+    ensures { IsTrue result ↔ (schema.now ≡ only_archive) }
+{
+    let [archive] = schema.tables.as_slice() else {
+        return false;
+    };
+    is_archive_table(archive) && schema.indexes.is_empty() && schema.views.is_empty()
+}
+
 /// Whether the tables are those of version 1, and no other.
 pub(crate) fn is_version_1(schema: &Schema) -> bool
-    ensures { IsTrue result → schema.now ≡ version_1 }
+    ensures { IsTrue result ↔ (schema.now ≡ version_1) }
 {
     are_tables_1(schema.tables.as_slice())
         && are_indexes_1(schema.indexes.as_slice())
@@ -289,9 +333,28 @@ pub(crate) fn is_version_1(schema: &Schema) -> bool
 
 /// Whether the tables are those of version 2, and no other.
 pub(crate) fn is_version_2(schema: &Schema) -> bool
-    ensures { IsTrue result → schema.now ≡ version_2 }
+    ensures { IsTrue result ↔ (schema.now ≡ version_2) }
 {
     are_tables_2(schema.tables.as_slice())
         && are_indexes_2(schema.indexes.as_slice())
         && schema.views.is_empty()
+}
+
+/// How many of the first tables of version 2 there are, where there is no other.
+pub(crate) fn count_of(schema: &Schema) -> Option<usize>
+    ensures { IfSome result (λ count. (count ≤ 3) × (schema.now ≡ first_tables count)) }
+{
+    if is_empty(schema) {
+        return Some(0);
+    }
+    if is_only_archive(schema) {
+        return Some(1);
+    }
+    if is_version_1(schema) {
+        return Some(2);
+    }
+    if is_version_2(schema) {
+        return Some(3);
+    }
+    None
 }

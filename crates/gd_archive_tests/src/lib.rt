@@ -4,8 +4,12 @@
 #[cfg(test)]
 mod bodies;
 #[cfg(test)]
+mod completed;
+#[cfg(test)]
 mod disks;
 #[cfg(test)]
 mod memory;
+#[cfg(test)]
+mod refused;
 #[cfg(test)]
 mod stopped;

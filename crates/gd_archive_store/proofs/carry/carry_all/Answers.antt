@@ -2,8 +2,9 @@ use Rattle.std.proofs.Common.{All, IsPermutation, map, ◌≡◌, ap, subst, rul
 use Rattle.sqlite.specs.Held.{state}
 use Rattle.sqlite.specs.Effect.{Database}
 use Rattle.sqlite.specs.State.{HasCleanDisk}
-use Rattle.gd_archive_store.specs.Migration.{IsMore, IsMigrated, carried}
+use Rattle.gd_archive_store.specs.Migration.{IsMigrated, carried}
 use Rattle.gd_archive_store.specs.Contents.{old_rows_of}
+use Rattle.gd_archive_store.specs.Stages.{IsMore}
 use Rattle.gd_archive_store.proofs.Inside.{migrates, migrated_at, all_held}
 use Rattle.gd_archive_store.proofs.carry.carry_all.Goals as goal
 

@@ -1,7 +1,8 @@
 use Rattle.std.proofs.Common.{◌≡◌, map, take, IsTrue, All}
 use Rattle.sqlite.specs.State.{HasCleanDisk, KeepsCommit}
 use Rattle.sqlite.specs.Held.{state}
-use Rattle.gd_archive_store.specs.Migration.{IsBuilt, IsMore, carried}
+use Rattle.gd_archive_store.specs.Migration.{carried}
+use Rattle.gd_archive_store.specs.Stages.{IsBuilt, IsMore}
 use Rattle.gd_archive_store.proofs.carry.carry_rows.Given as goal
 
 abbrev pub invariant-loop-row : goal.invariant-loop-row
