@@ -1,9 +1,11 @@
 -- Cutting a line at its commas byte by byte, and taking the carriage return off its end.
-use Rattle.std.proofs.Common.{◌≡◌, ◌≢◌, ℕ, zero, suc, ◌+◌, ◌-◌, ◌<◌, ◌≤◌, ◌==◌, true, false, List, [], ◌∷◌, ◌++◌, length, take, drop, get_or, refl, ap, sym, ◌∙◌, arith, add-one, drop-cons}
+use Rattle.std.proofs.Common.{◌≡◌, ◌≢◌, ℕ, zero, suc, ◌+◌, ◌-◌, ◌<◌, ◌≤◌, ◌==◌, Bool, true, false, if◌then◌else◌, List, [], ◌∷◌, ◌++◌, length, take, drop, get_or, refl, ap, sym, ◌∙◌, arith, add-one, drop-cons}
 use Rattle.std.proofs.lemmas.Bool.{eqb-true, ne_eqb}
-use Rattle.std.proofs.lemmas.List.{get_or-drop, length-drop}
+use Rattle.std.proofs.lemmas.List.{get_or-drop, length-drop, drop_all, take_all}
 use Rattle.std.proofs.Math.Seq.{take-suc}
+use Rattle.csv.specs.Records.{field_at}
 use Rattle.gd_text_part.specs.Lines.{bare, cut_at_commas, is_mark, is_marked}
+use Rattle.gd_text_part.specs.Rows.{field}
 
 -- there is one byte at least
 some : (line : List ℕ) → (length line == 0) ≡ false → length line ≡ length line - 1 + 1
@@ -57,3 +59,28 @@ pub joins_it : (line : List ℕ) (begin at : ℕ) → at < length line → begin
     → cut_at_commas (at_hand line begin at) (drop at line) ≡ cut_at_commas (at_hand line begin (at + 1)) (drop (at + 1) line)
 joins_it line begin at h b e =
     rw (grown line begin at h b) (rw (drop-cons line at 0 h, add-one) (rw (ne_eqb (get_or line at 0) 44 e) refl))
+
+abbrev first_of : List (List ℕ) → List ℕ
+first_of fields = field fields 1
+
+-- the field before a comma, or that at the end, is the first one
+front : (b : Bool) (begun : List ℕ) (more other : List (List ℕ)) → b ≡ true → first_of (if b then begun ∷ more else other) ≡ begun
+unfolding field_at
+front true begun more other e = refl
+front false begun more other e = absurd cc
+
+pub first_before : (line : List ℕ) (at : ℕ) → at < length line → get_or line at 0 ≡ 44
+    → cut_at_commas (at_hand line 0 at) (drop at line) ≡ cut_at_commas [] line → take at line ≡ first_of (cut_at_commas [] line)
+first_before line at h comma cut =
+    let same : at - 0 ≡ at = omega arith in
+    let here : first_of (cut_at_commas (at_hand line 0 at) (drop at line)) ≡ at_hand line 0 at =
+    rw (drop-cons line at 0 h) (front (get_or line at 0 == 44) (at_hand line 0 at) _ _ (rw comma refl)) in
+    sym (ap first_of (sym cut) ∙ here ∙ ap (λ n. take n line) same)
+
+pub first_at_end : (line : List ℕ) (at : ℕ) → length line ≤ at
+    → cut_at_commas (at_hand line 0 at) (drop at line) ≡ cut_at_commas [] line → line ≡ first_of (cut_at_commas [] line)
+unfolding field_at
+first_at_end line at high cut =
+    let same : at - 0 ≡ at = omega arith in
+    let here : first_of (cut_at_commas (at_hand line 0 at) (drop at line)) ≡ at_hand line 0 at = rw (drop_all at line high) refl in
+    sym (ap first_of (sym cut) ∙ here ∙ ap (λ n. take n line) same ∙ take_all at line high)

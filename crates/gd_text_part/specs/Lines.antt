@@ -1,12 +1,14 @@
 -- Rows that come line by line, behind the opening of a gas day.
-use Rattle.std.specs.Prelude.{◌≡◌, ◌≤◌, ℕ, Bool, true, false, ◌==◌, ◌||◌, List, [], ◌∷◌, ◌++◌, length, if◌then◌else◌}
+use Rattle.std.specs.Prelude.{◌≡◌, ◌≤◌, ℕ, Bool, true, false, ◌==◌, ◌||◌, nat_le, List, [], ◌∷◌, ◌++◌, length, if◌then◌else◌}
 use Rattle.std.specs.Prelude.{Option, Some, None, Result, Err}
 use Rattle.std.specs.List.{AllByRecursion}
-use Rattle.gd_text_part.specs.Kinds.{stage_of}
+use Rattle.gd_text_part.specs.Kinds.{kind_in, stage_of}
 use Rattle.gd_text_part.specs.Offices.{no_blocks}
 use Rattle.gd_text_part.specs.Places.{row_of}
+use Rattle.gd_text_part.specs.Rows.{field}
 use Rattle.gd_text_part.specs.declared.fault.Cause.TheVariants as cause
 use Rattle.gd_text_part.specs.declared.fault.RowFault.{RowFault}
+use Rattle.gd_text_part.specs.declared.kind.RowKind.{RowKind}
 use Rattle.gd_text_part.specs.declared.kind.RowKind.TheVariants as kind
 use Rattle.gd_text_part.specs.declared.kind.Form.TheVariants as form
 use Rattle.gd_text_part.specs.declared.order.Place.{Place}
@@ -56,3 +58,12 @@ row_in place n (Some fields) = row_of form.Day place n fields
 -- quotation mark or a line break within it has no eight fields
 abbrev pub line_of : Place → ℕ → List ℕ → Result (Row × Place) RowFault
 line_of place n line = row_in place n (fields_in line)
+
+-- whether rows of a kind stand behind the opening of a gas day: calls, and the rows of their groups
+abbrev pub is_kind_of_calls : Option RowKind → Bool
+is_kind_of_calls None = false
+is_kind_of_calls (Some k) = nat_le (stage_of kind.Sched) (stage_of k)
+
+-- whether the first field of a line names such a kind
+abbrev pub is_of_calls : List ℕ → Bool
+is_of_calls line = is_kind_of_calls (kind_in form.Day (field (cut_at_commas [] (bare line)) 1))

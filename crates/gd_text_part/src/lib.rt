@@ -24,7 +24,7 @@ pub use date::CivilDate;
 pub use fault::{Cause, RowFault, TextFault};
 pub use input::{MAX_BYTES, MAX_READS, read_bytes};
 pub use kind::{Form, RowKind};
-pub use line::{LinePlace, bare};
+pub use line::{LinePlace, bare, is_of_calls};
 pub use number::{number_of, signed_of};
 pub use order::missing_head;
 pub use output::{WriteFault, write_bytes};

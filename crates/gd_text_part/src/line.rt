@@ -1,9 +1,10 @@
 //! Rows that come line by line, behind the opening of a gas day.
 
-ghost use Rattle.std.specs.Prelude.{◌≡◌, IfOk, option_map};
+ghost use Rattle.std.specs.Prelude.{◌≡◌, [], IfOk, option_map};
 ghost use Rattle.csv.specs.Records.{fields_of};
 ghost use Rattle.gd_text_part.specs.Findings.{Finds};
 ghost use Rattle.gd_text_part.specs.Lines as spec;
+ghost use Rattle.gd_text_part.specs.Rows.{field};
 
 use crate::blocks::Blocks;
 use crate::fault::{Cause, TextFault};
@@ -50,6 +51,29 @@ fn fields_in(alloc: Global, line: &[u8]) -> Result<Option<ByteRecord>, AllocErro
     }
     record.push_field(&line[begin..])?;
     Ok(Some(record))
+}
+
+/// The first field of a line: its bytes before its first comma, or all where it has none.
+fn first_field(line: &[u8]) -> &[u8]
+    ensures { result.now ≡ field (spec.cut_at_commas [] line.now) 1 }
+{
+    'bytes: for end in 0..line.len() {
+        if line[end] == b',' {
+            return &line[..end];
+        }
+    }
+    line
+}
+
+/// Whether the first field of a line, which may have a carriage return at its end, names a kind of rows that stand behind
+/// the opening of a gas day: calls, and the rows of their groups. The line may be no row all the same.
+pub fn is_of_calls(line: &[u8]) -> bool
+    ensures { result ≡ spec.is_of_calls line.now }
+{
+    match Form::Day.kind_of(first_field(bare(line))) {
+        Some(kind) => kind.stage() >= RowKind::Sched.stage(),
+        None => false,
+    }
 }
 
 /// Where the rows of a gas day stand that come line by line: behind its opening, or behind a row of the calls that follow it.
