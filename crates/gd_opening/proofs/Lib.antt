@@ -1,0 +1,4 @@
+mod States
+mod Marks
+mod Growing
+mod Examples
