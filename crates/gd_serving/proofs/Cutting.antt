@@ -1,0 +1,41 @@
+-- Lines that come in parts.
+use Rattle.std.proofs.Common.{◌≡◌, ℕ, ◌==◌, false, true, Bool, List, [], ◌∷◌, ◌++◌, append-nil, refl, sym, ap, ◌∙◌, if◌then◌else◌}
+use Rattle.std.proofs.lemmas.List.{append_assoc}
+use Rattle.std.specs.List.{AllByRecursion}
+use Rattle.gd_serving.specs.Lines.{cut, HasNoEnd, text_of_lines}
+
+abbrev pub Cut : Type 0
+Cut = List (List ℕ) × List ℕ
+
+-- bytes behind what was cut
+abbrev pub cut_on : Cut → List ℕ → Cut
+cut_on c ys = (c.0 ++ (cut c.1 ys).0, (cut c.1 ys).1)
+
+cut_at : (begun : List ℕ) (b : ℕ) (xs ys : List ℕ) (t : Bool) → cut [] (xs ++ ys) ≡ cut_on (cut [] xs) ys → cut (begun ++ b ∷ []) (xs ++ ys) ≡ cut_on (cut (begun ++ b ∷ []) xs) ys
+    → (if t then (begun ∷ (cut [] (xs ++ ys)).0, (cut [] (xs ++ ys)).1) else cut (begun ++ b ∷ []) (xs ++ ys))
+    ≡ cut_on (if t then (begun ∷ (cut [] xs).0, (cut [] xs).1) else cut (begun ++ b ∷ []) xs) ys
+cut_at begun b xs ys true ended on = ap (λ (c : Cut). (begun ∷ c.0, c.1)) ended
+cut_at begun b xs ys false ended on = on
+
+pub cut_append : (begun xs ys : List ℕ) → cut begun (xs ++ ys) ≡ cut_on (cut begun xs) ys
+cut_append begun [] ys = refl
+cut_append begun (b ∷ xs) ys = cut_at begun b xs ys (b == 10) (cut_append [] xs ys) (cut_append (begun ++ b ∷ []) xs ys)
+
+-- a line that ends
+pub cut_ended : (begun line rest : List ℕ) → HasNoEnd line → cut begun (line ++ 10 ∷ rest) ≡ ((begun ++ line) ∷ (cut [] rest).0, (cut [] rest).1)
+cut_ended begun [] rest all = ap (λ l. (l ∷ (cut [] rest).0, (cut [] rest).1)) (sym (append-nil begun))
+cut_ended begun (c ∷ line) rest all =
+    rw all.0 (cut_ended (begun ++ c ∷ []) line rest all.1 ∙ ap (λ l. (l ∷ (cut [] rest).0, (cut [] rest).1)) (append_assoc begun (c ∷ []) line))
+
+-- and one that doesn't
+pub cut_unended : (begun line : List ℕ) → HasNoEnd line → cut begun line ≡ ([], begun ++ line)
+cut_unended begun [] all = ap (λ (l : List ℕ). ([], l)) (sym (append-nil begun))
+cut_unended begun (c ∷ line) all =
+    rw all.0 (cut_unended (begun ++ c ∷ []) line all.1 ∙ ap (λ (l : List ℕ). ([], l)) (append_assoc begun (c ∷ []) line))
+
+-- lines that were put together are cut into themselves
+pub cut_again : (lines : List (List ℕ)) → AllByRecursion HasNoEnd lines → cut [] (text_of_lines lines) ≡ (lines, [])
+cut_again [] all = refl
+cut_again (line ∷ lines) all =
+    ap (cut []) (append_assoc line (10 ∷ []) (text_of_lines lines)) ∙ cut_ended [] line (text_of_lines lines) all.0
+    ∙ ap (λ (c : Cut). (line ∷ c.0, c.1)) (cut_again lines all.1)

@@ -1,0 +1,4 @@
+mod Cutting
+mod Giving
+mod Blocks
+mod Runs

@@ -1,0 +1,5 @@
+pub mod Lines
+pub mod Yields
+pub mod Seen
+pub mod Turns
+pub mod Runs
