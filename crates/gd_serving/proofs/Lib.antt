@@ -2,3 +2,5 @@ mod Cutting
 mod Giving
 mod Blocks
 mod Runs
+mod Fits
+mod Again

@@ -1,7 +1,7 @@
 -- Turns one after the other.
-use Rattle.std.specs.Prelude.{IfSome, ◌≢◌}
-use Rattle.std.proofs.Common.{◌≡◌, ◌⊎◌, inl, inr, ◌+◌, ◌==◌, ℕ, Bool, true, false, List, [], ◌∷◌, ◌++◌, length, take, flat_map, Option, Some, None, append-nil, refl, sym, ap, subst, ◌∙◌, if◌then◌else◌, arith, eqb-true}
-use Rattle.std.proofs.lemmas.List.{append_assoc}
+use Rattle.std.specs.Prelude.{IfSome}
+use Rattle.std.proofs.Common.{◌≡◌, ◌⊎◌, inl, inr, ◌+◌, ◌==◌, ℕ, Bool, true, false, List, [], ◌∷◌, ◌++◌, length, take, Option, Some, None, append-nil, refl, sym, ap, subst, ◌∙◌, if◌then◌else◌, arith, eqb-true}
+use Rattle.std.proofs.lemmas.List.{append_assoc, nil_from_length}
 use Rattle.std.proofs.lemmas.Grind.{flat_map-append}
 use Rattle.std.proofs.Math.Seq.{take-append-add}
 use Rattle.std.proofs.KnownBytes.{Appends-nil, Appends-trans, Consumes-nil, Consumes-trans}
@@ -10,25 +10,21 @@ use Rattle.sqlite.specs.Tree.{Trees}
 use Rattle.sqlite.specs.State.{State, HasCleanDisk}
 use Rattle.gd_journal_store.specs.Pieces.{Piece, IsSettled, LeavesOr, HasPieces}
 use Rattle.gd_serving.specs.Lines.{cut}
-use Rattle.gd_serving.specs.Yields.{Yield, rows_of, replies_of, told_of, kept_of, piece_of, LinesGive}
-use Rattle.gd_serving.specs.Turns.{grown, OnSettled, IsSettledAt, IsUntouched, IsUnkept, IsUntold, Taken, GoesOn, Stops}
-use Rattle.gd_serving.specs.Runs.{rows_text, told_text, AreOf, HasKept, KeepsOn, Keeps, Served, StoppedUnread, StoppedUnkept, StoppedUntold, Stopped}
+use Rattle.gd_serving.specs.Yields.{Yield, told_of, piece_of, LinesGive}
+use Rattle.gd_serving.specs.Turns.{grown, IsSettledAt, IsUntouched, IsUnkept, IsUntold, GoesOn, Stops}
+use Rattle.gd_serving.specs.Runs.{rows_text, told_text, AreOf, HasKept, KeepsOn, Served, StoppedUnread, StoppedUnkept, StoppedUntold, Stopped}
 use Rattle.gd_serving.specs.declared.failure.Failure.{Failure}
 use Rattle.gd_serving.specs.declared.failure.Failure.TheVariants.{ReadFailed, OutOfMemory, Store, WriteFailed}
 use Rattle.gd_serving.proofs.Cutting.{Cut, cut_append}
 use Rattle.gd_serving.proofs.Giving.{rows_append, replies_append, told_append, give_append}
-
-empty : (xs : List ℕ) → length xs ≡ 0 → xs ≡ []
-empty [] e = refl
-empty (x ∷ xs) e = absurd (omega (arith, e))
 
 -- one piece more, if it has anything, is the same in what is kept
 all_grown : (ps more : List Piece) (p : Piece) → (b : Bool) → (length p.0 + length p.1 == 0) ≡ b
     → (all : List Piece) × ((if b then (ps ++ more) else (ps ++ more) ++ p ∷ []) ≡ ps ++ all) × (rows_text all ≡ rows_text more ++ p.0) × (told_text all ≡ told_text more ++ p.1)
 all_grown ps more p true e =
     let sum : length p.0 + length p.1 ≡ 0 = eqb-true (length p.0 + length p.1) 0 e in
-    let rows : p.0 ≡ [] = empty p.0 (omega (arith, sum)) in
-    let told : p.1 ≡ [] = empty p.1 (omega (arith, sum)) in
+    let rows : p.0 ≡ [] = nil_from_length p.0 (omega (arith, sum)) in
+    let told : p.1 ≡ [] = nil_from_length p.1 (omega (arith, sum)) in
     (more, refl, sym (append-nil (rows_text more)) ∙ ap (λ l. rows_text more ++ l) (sym rows), sym (append-nil (told_text more)) ∙ ap (λ l. told_text more ++ l) (sym told))
 all_grown ps more p false e = (
   more ++ p ∷ [],

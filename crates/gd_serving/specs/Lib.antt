@@ -3,3 +3,4 @@ pub mod Yields
 pub mod Seen
 pub mod Turns
 pub mod Runs
+pub mod Replays

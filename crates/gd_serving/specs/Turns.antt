@@ -1,15 +1,15 @@
 -- What one turn keeps and tells: one read, then one piece, and then what is told of its lines.
-use Rattle.std.specs.Prelude.{◌≡◌, ℕ, ◌+◌, ◌==◌, List, [], ◌∷◌, ◌++◌, length, take, Option, if◌then◌else◌}
+use Rattle.std.specs.Prelude.{◌≡◌, ℕ, ◌+◌, List, [], ◌∷◌, ◌++◌, length, take, Option, if◌then◌else◌}
 use Rattle.std.specs.Io.KnownBytes.{Appends}
 use Rattle.sqlite.specs.State.{State, HasCleanDisk}
 use Rattle.gd_journal_store.specs.Pieces.{Piece, IsSettled, LeavesOr}
-use Rattle.gd_serving.specs.Yields.{Yield, LinesGive, kept_of, piece_of, told_of}
+use Rattle.gd_serving.specs.Yields.{Yield, LinesGive, kept_of, piece_of, told_of, is_nothing}
 use Rattle.gd_serving.specs.declared.failure.Failure.{Failure}
 use Rattle.gd_serving.specs.declared.failure.Failure.TheVariants.{ReadFailed, OutOfMemory, Store, WriteFailed}
 
 -- these pieces, and one more if it has anything
 abbrev pub grown : List Piece → Piece → List Piece
-grown ps p = if length p.0 + length p.1 == 0 then ps else ps ++ p ∷ []
+grown ps p = if is_nothing p then ps else ps ++ p ∷ []
 
 -- what holds of the pieces that the journal was settled on, if this was its next number and the disk is clean at the end
 abbrev pub OnSettled : ℕ → State → State → (List Piece → Type 0) → Type 0

@@ -1,5 +1,5 @@
 -- What lines yield, by whatever takes them.
-use Rattle.std.specs.Prelude.{◌≡◌, ℕ, List, [], ◌∷◌, ◌++◌, flat_map}
+use Rattle.std.specs.Prelude.{◌≡◌, ℕ, ◌+◌, ◌==◌, Bool, not, List, [], ◌∷◌, ◌++◌, length, flat_map, count_by}
 use Rattle.gd_journal_store.specs.Pieces.{Piece}
 
 -- the rows that are kept, the replies that are kept with them, and all that is told
@@ -28,6 +28,14 @@ kept_of y = (y.rows, y.replies)
 -- and of all of them
 abbrev pub piece_of : List Yield → Piece
 piece_of ys = kept_of (total ys)
+
+-- whether nothing is to be kept
+abbrev pub is_nothing : Piece → Bool
+is_nothing p = length p.0 + length p.1 == 0
+
+-- how many of them keep anything
+abbrev pub kept_count : List Yield → ℕ
+kept_count ys = count_by (λ (y : Yield). not (is_nothing (kept_of y))) ys
 
 -- this is added at the end of each
 pub record Adds (old new y : Yield) : Type 0 where

@@ -2,7 +2,7 @@
 
 ghost use Rattle.std.specs.Prelude.{◌≡◌, []};
 ghost use Rattle.gd_serving.specs.Seen.{seen};
-ghost use Rattle.gd_serving.specs.Yields.{total};
+ghost use Rattle.gd_serving.specs.Yields.{total, kept_of, is_nothing};
 
 use std::alloc::Global;
 
@@ -26,5 +26,21 @@ impl Given {
             replies: Vec::new(alloc),
             told: Vec::new(alloc),
         }
+    }
+
+    /// Forgets all, and keeps the room.
+    pub(crate) fn clear(&mut self)
+        ensures { seen self.new ≡ total [] }
+    {
+        self.rows.clear();
+        self.replies.clear();
+        self.told.clear();
+    }
+
+    /// Whether nothing is to be kept.
+    pub(crate) fn is_nothing(&self) -> bool
+        ensures { result ≡ is_nothing (kept_of (seen self.now)) }
+    {
+        self.rows.is_empty() && self.replies.is_empty()
     }
 }

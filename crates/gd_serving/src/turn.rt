@@ -42,7 +42,7 @@ fn keep<S: Alter>(conn: &mut Connection<S>, next: &mut u32, given: &Given) -> Re
         OnSettled next.old old new (λ ps. LeavesOr (grown ps (kept_of (seen given.now))) old new) }
     ensures clean { HasCleanDisk (state S.Store conn.new) → HasCleanDisk (state S.Store conn.old) }
 {
-    if given.rows.is_empty() && given.replies.is_empty() {
+    if given.is_nothing() {
         return Ok(());
     }
     if *next == u32::MAX {

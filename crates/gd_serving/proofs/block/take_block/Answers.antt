@@ -1,5 +1,4 @@
-use Rattle.std.proofs.Common.{rules, ◌≡◌, ◌++◌, ◌∷◌}
-use Rattle.gd_serving.specs.Lines.{HasNoEnd}
+use Rattle.std.proofs.Common.{rules, ◌≡◌, ◌++◌}
 use Rattle.gd_serving.specs.Seen.{seen}
 use Rattle.gd_serving.proofs.Blocks.{begins, line_taken, block_taken, beginning_left}
 use Rattle.gd_serving.proofs.block.take_block.Goals as goal
