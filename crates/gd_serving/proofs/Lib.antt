@@ -4,3 +4,4 @@ mod Blocks
 mod Runs
 mod Fits
 mod Again
+mod Examples
