@@ -9,6 +9,7 @@ use crate::given::Given;
 use crate::taking::TakesLines;
 use memchr::memchr;
 use std::alloc::AllocError;
+use std::thread::Threads;
 
 /// The first whole line, and what comes behind its line feed; `None` where no line ends.
 pub(crate) fn first_line(bytes: &[u8]) -> Option<(&[u8], &[u8])>
@@ -21,6 +22,7 @@ pub(crate) fn first_line(bytes: &[u8]) -> Option<(&[u8], &[u8])>
 
 /// Takes the line that has come to its end. It is copied only where it began in another block.
 fn take_ended<D: TakesLines>(
+    rt: &(impl Threads + Sync),
     desk: &mut D,
     begun: &mut Vec<u8>,
     end: &[u8],
@@ -31,10 +33,10 @@ fn take_ended<D: TakesLines>(
     ensures begun { OnOk result (begun.new.items ≡ []) }
 {
     if begun.is_empty() {
-        return desk.take_line(end, given);
+        return desk.take_line(rt, end, given);
     }
     begun.extend_from_slice(end)?;
-    desk.take_line(begun.as_slice(), given)?;
+    desk.take_line(rt, begun.as_slice(), given)?;
     begun.clear();
     Ok(())
 }
@@ -46,6 +48,7 @@ fn take_ended<D: TakesLines>(
 ///
 /// Memory ended. Some lines may have been taken; nothing that was passed is to be used from then on.
 pub fn take_block<D: TakesLines>(
+    rt: &(impl Threads + Sync),
     desk: &mut D,
     begun: &mut Vec<u8>,
     block: &[u8],
@@ -58,7 +61,7 @@ pub fn take_block<D: TakesLines>(
 {
     let mut rest = block;
     'lines: while let Some((end, behind)) = first_line(rest) {
-        take_ended(desk, begun, end, given)?;
+        take_ended(rt, desk, begun, end, given)?;
         rest = behind;
     }
     begun.extend_from_slice(rest)?;

@@ -11,6 +11,7 @@ use crate::given::Given;
 use crate::taking::TakesLines;
 use gd_journal_store::Piece;
 use std::alloc::{AllocError, Global};
+use std::thread::Threads;
 
 /// What comes behind this front; `None` where the bytes begin otherwise.
 fn behind<'a>(bytes: &'a [u8], front: &[u8]) -> Option<&'a [u8]>
@@ -22,6 +23,7 @@ fn behind<'a>(bytes: &'a [u8], front: &[u8]) -> Option<&'a [u8]>
 /// Takes a line again, and answers what of these rows and replies comes behind those that it gives; `None` where they don't
 /// begin with those.
 fn take_again<'a, D: TakesLines>(
+    rt: &(impl Threads + Sync),
     desk: &mut D,
     line: &[u8],
     given: &mut Given,
@@ -33,7 +35,7 @@ fn take_again<'a, D: TakesLines>(
         (λ p. (rows.now ≡ y.rows ++ p.0.now) × (told.now ≡ y.replies ++ p.1.now))) }
 {
     given.clear();
-    desk.take_line(line, given)?;
+    desk.take_line(rt, line, given)?;
     let Some(rows) = behind(rows, given.rows.as_slice()) else {
         return Ok(None);
     };
@@ -64,6 +66,7 @@ fn is_used_up(bytes: &[u8], rows: &[u8], told: &[u8]) -> bool
 /// Takes the lines of a piece again, and answers whether they give what it keeps, and nothing else. `next` is the number of
 /// the next call: behind the piece, or where it differs.
 pub(crate) fn fits<D: TakesLines>(
+    rt: &(impl Threads + Sync),
     alloc: Global,
     desk: &mut D,
     piece: &Piece,
@@ -78,7 +81,8 @@ pub(crate) fn fits<D: TakesLines>(
     let mut rows = bytes;
     let mut told = piece.told.as_slice();
     'lines: while let Some((line, rest)) = first_line(bytes) {
-        let Some((rows_left, told_left)) = take_again(desk, line, &mut given, rows, told)? else {
+        let Some((rows_left, told_left)) = take_again(rt, desk, line, &mut given, rows, told)?
+        else {
             return Ok(false);
         };
         *next = next_behind(*next, &given)?;

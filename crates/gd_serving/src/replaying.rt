@@ -12,6 +12,7 @@ use crate::taking::TakesLines;
 use gd_journal_store::{Piece, StoreFault, pieces};
 use sqlite::{Alter, Connection};
 use std::alloc::{AllocError, Global};
+use std::thread::Threads;
 
 /// How many pieces are held in memory at once.
 const BATCH: u32 = 256;
@@ -52,6 +53,7 @@ impl From<StoreFault> for ReplayFault {
 
 /// Takes pieces again, the first of which has this number and the one behind.
 fn take_pieces<D: TakesLines>(
+    rt: &(impl Threads + Sync),
     alloc: Global,
     desk: &mut D,
     all: &[Piece],
@@ -65,7 +67,7 @@ fn take_pieces<D: TakesLines>(
     let mut number = u64::from(after);
     'pieces: for piece in all {
         number += 1;
-        if !fits(alloc, desk, piece, next)? {
+        if !fits(rt, alloc, desk, piece, next)? {
             return Err(ReplayFault::Differs {
                 piece: number,
                 call: *next,
@@ -85,6 +87,7 @@ fn take_pieces<D: TakesLines>(
 /// `Differs` at the first line that gives something else, also where a piece ends within a line, or has more than its lines
 /// give. Else memory ended, or a read was refused. After any of them the desk is not to be used.
 pub fn replay<S: Alter, D: TakesLines>(
+    rt: &(impl Threads + Sync),
     alloc: Global,
     conn: &mut Connection<S>,
     desk: &mut D,
@@ -106,7 +109,7 @@ pub fn replay<S: Alter, D: TakesLines>(
     'batches: while at < count {
         let size = BATCH.min(count - at);
         let some = pieces(conn, alloc, at, size)?;
-        take_pieces(alloc, desk, some.as_slice(), at, &mut next)?;
+        take_pieces(rt, alloc, desk, some.as_slice(), at, &mut next)?;
         at += size;
     }
     Ok(next - 1)

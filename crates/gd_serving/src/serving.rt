@@ -12,6 +12,7 @@ use crate::turn::{Intake, Turn, take_turn};
 use sqlite::{Alter, Connection};
 use std::alloc::{AllocError, Global};
 use std::io::{Read, Write};
+use std::thread::Threads;
 
 /// How many bytes one read takes at most.
 const BLOCK: usize = 65_536;
@@ -41,6 +42,7 @@ fn finish_of(begun: &[u8]) -> Finish
 ///
 /// Each as `Failure` says. After any of them the desk is not to be used.
 pub fn serve<S: Alter, D: TakesLines, R: Read, W: Write>(
+    rt: &(impl Threads + Sync),
     alloc: Global,
     conn: &mut Connection<S>,
     desk: &mut D,
@@ -63,7 +65,7 @@ pub fn serve<S: Alter, D: TakesLines, R: Read, W: Write>(
         next,
     };
     'turns: for _ in 0..u64::MAX {
-        match take_turn(alloc, conn, desk, &mut intake, block, reader, writer)? {
+        match take_turn(rt, alloc, conn, desk, &mut intake, block, reader, writer)? {
             Turn::GoesOn => {}
             Turn::Ended => return Ok(finish_of(intake.begun.as_slice())),
         }

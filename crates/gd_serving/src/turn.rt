@@ -19,6 +19,7 @@ use gd_journal_store::{StoreFault, append};
 use sqlite::{Alter, Connection, Error, ErrorCode};
 use std::alloc::Global;
 use std::io::{Read, Write};
+use std::thread::Threads;
 
 /// How a turn ended: more may come, or the input is at its end.
 #[derive(Clone, Copy, Debug, PartialEq, Eq)]
@@ -80,6 +81,7 @@ fn keep_and_tell<S: Alter, W: Write>(
 ///
 /// Each as `Failure` says. After any of them the desk and the intake are not to be used.
 pub fn take_turn<S: Alter, D: TakesLines, R: Read, W: Write>(
+    rt: &(impl Threads + Sync),
     alloc: Global,
     conn: &mut Connection<S>,
     desk: &mut D,
@@ -109,7 +111,7 @@ pub fn take_turn<S: Alter, D: TakesLines, R: Read, W: Write>(
         return Ok(Turn::Ended);
     }
     let mut given = Given::new(alloc);
-    take_block(desk, &mut intake.begun, &block[..count], &mut given)?;
+    take_block(rt, desk, &mut intake.begun, &block[..count], &mut given)?;
     keep_and_tell(conn, &mut intake.next, &given, writer)?;
     Ok(Turn::GoesOn)
 }
