@@ -81,6 +81,13 @@ fn words_of(reply: &Reply) -> Option<&'static str> {
         Reply::Store => Some(
             "the archive can't be opened, read or written, or the file is none, or another process writes to it",
         ),
+        Reply::Busy => Some("another process has the file; it is free again once that has ended"),
+        Reply::Full(_) => Some(
+            "the file keeps as many rows or bytes as a text may have, and takes no more calls",
+        ),
+        Reply::Differs { .. } => Some(
+            "the file was changed since it was written, or another program wrote it: the call that the row names gives other rows than the file says were told",
+        ),
         // What is told with what the text has, or with numbers.
         Reply::Fault(_)
         | Reply::OutOfRange
@@ -121,7 +128,9 @@ fn words_of(reply: &Reply) -> Option<&'static str> {
         | Reply::ReceiptRefused { .. }
         | Reply::Slot(_)
         | Reply::Audited(_)
-        | Reply::Migrated(_) => None,
+        | Reply::Migrated(_)
+        | Reply::Opened { .. }
+        | Reply::Replayed { .. } => None,
     }
 }
 

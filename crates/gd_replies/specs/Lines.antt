@@ -100,6 +100,12 @@ fields_of (reply.Migrated n) = codes "migrated" ∷ decimal n ∷ []
 fields_of reply.OtherVersion = codes "refused" ∷ codes "migrate" ∷ codes "1" ∷ codes "OtherVersion" ∷ []
 fields_of reply.Store = codes "fault" ∷ codes "0" ∷ codes "Store" ∷ []
 fields_of reply.OldVersion = codes "fault" ∷ codes "0" ∷ codes "OldVersion" ∷ []
+fields_of (reply.Opened book calls events) = codes "opened" ∷ book ∷ decimal calls ∷ decimal events ∷ []
+fields_of (reply.Replayed book calls events published) =
+    codes "replayed" ∷ book ∷ decimal calls ∷ decimal events ∷ decimal published ∷ []
+fields_of (reply.Differs piece call) = codes "differs" ∷ decimal piece ∷ decimal call ∷ []
+fields_of reply.Busy = codes "fault" ∷ codes "0" ∷ codes "Busy" ∷ []
+fields_of (reply.Full n) = codes "fault" ∷ decimal n ∷ codes "TooLong" ∷ []
 
 -- the bytes of a reply
 abbrev pub line_of : Reply → List ℕ

@@ -2,9 +2,9 @@ mod Joined
 mod Plain
 mod Fresh
 mod Marks
-mod Fronts
+pub mod Fronts
 mod Following
-mod AmongCalls
-mod Renumbered
-mod RowLines
+pub mod AmongCalls
+pub mod Renumbered
+pub mod RowLines
 mod Examples
