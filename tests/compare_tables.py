@@ -93,7 +93,7 @@ def tested_refusals() -> dict[str, list[str]]:
 
 def helped_refusals(text: str) -> dict[str, list[str]]:
     """The refusals of each call in the help of `day`, by their numbers."""
-    part = text.partition("by their number N")[2].partition("\n  and on each")[0]
+    part = text.partition("by their number N")[2].partition("\n  DayClosed")[0]
     found: dict[str, list[str]] = {}
     for call, row in re.findall(r"^  ([a-z]+) +(1 .*(?:\n {12}.*)*)", part, re.M):
         # A text's certificate that doesn't pass is told in the place of one for another question.

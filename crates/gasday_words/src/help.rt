@@ -309,7 +309,6 @@ The refusals of each call by their number N, the first that applies:
   declare   1 NotFrozen, 2 StaleRound, 3 NoCutProof, 4 TooManyEvents
   waive     1 AllSettled, 2 Frozen, 3 NoCut, 4 UnknownLine, 5 TooManyEvents
   skip      1 AllSettled, 2 Frozen, 3 NoCut, 4 TooManyEvents
-  and on each, where memory is refused, 5 OutOfMemory
   DayClosed           The moment lies behind the received time of all five cycles. Nominate earlier.
   UnknownContract     There is no contract of that name. Correct it.
   NotShipper          The party isn't the contract's shipper. Only the shipper nominates under it.
@@ -336,8 +335,6 @@ The refusals of each call by their number N, the first that applies:
                       settle.
   NoCut               No cut was declared in this cycle. Only behind a declared row may a line
                       waive, or the cycle be skipped.
-  OutOfMemory         Memory was refused (number 5); the book is as it was. Call again with more
-                      memory.
   BoardTaken          Somebody else posted for this cycle (number 6). What was posted stands.
   UnknownEnd          An end is no point and no pool. Correct its name.
   WrongEnd            Gas would come from a delivery point, or go to a receipt point. Exchange the
