@@ -1,3 +1,4 @@
 pub mod Answers
 pub mod AnswerSeen
 pub mod Output
+pub mod OpenedBooks

@@ -1,18 +1,17 @@
 //! What is told of the course of a gas day.
 
-ghost use Rattle.std.specs.Prelude.{◌≡◌, [], IfOk, Ok};
+ghost use Rattle.std.specs.Prelude.{◌≡◌, [], IfOk};
 ghost use Rattle.gd_day.specs.Calls.{calls_of};
 ghost use Rattle.gd_day.specs.Groups.{AllPass};
 ghost use Rattle.gd_day.specs.Opening.{opened_of};
 ghost use Rattle.gasday_part.specs.Answers as spec;
 ghost use Rattle.gasday_part.specs.AnswerSeen.{answer_seen};
 
-use crate::answer::{Answer, of_fault};
-use crate::day::{calendar_of, of_no_calendar};
+use crate::answer::Answer;
+use crate::opened::{of_no_book, open_book};
 use gd_board::Board;
 use gd_book::Book;
 use gd_course::run;
-use gd_day::{DayText, day_text_of};
 use gd_text_part::Row;
 use std::alloc::{AllocError, Global};
 use std::thread::Threads;
@@ -36,47 +35,6 @@ fn tell_calls(rt: &(impl Threads + Sync), alloc: Global, book: &mut Book, rows: 
     }
 }
 
-/// What the calls of the rows give on the book that their text opens.
-fn tell_text(
-    rt: &(impl Threads + Sync),
-    alloc: Global,
-    text: DayText,
-    rows: &[Row],
-) -> Result<Answer, AllocError>
-    requires { AllPass text.contracts.pipeline (calls_of rows.now) }
-    ensures { IfOk result (λ a. spec.TellsDay rows.now (Ok (record {
-      date = text.date;
-      zone = text.zone;
-      book = text.book;
-      holdings = text.contracts;
-      carry = text.carry.items;
-    })) (answer_seen a)) }
-{
-    let DayText {
-        date,
-        zone,
-        book,
-        contracts,
-        carry,
-    } = text;
-    match calendar_of(alloc, date, &zone) {
-        Ok(calendar) => match Book::open(alloc, book, contracts, calendar, carry) {
-            Ok(mut book) => {
-                let told = tell_calls(rt, alloc, &mut book, rows);
-                drop(book);
-                Ok(told)
-            }
-            // No line is carried over twice, so that nothing but memory can be wanting.
-            Err(_) => Err(AllocError),
-        },
-        Err(fault) => {
-            drop(contracts);
-            drop(carry);
-            of_no_calendar(alloc, fault)
-        }
-    }
-}
-
 /// The course of the gas day that the rows tell.
 pub(crate) fn tell_day(
     rt: &(impl Threads + Sync),
@@ -85,8 +43,12 @@ pub(crate) fn tell_day(
 ) -> Result<Answer, AllocError>
     ensures { IfOk result (λ a. spec.TellsDay rows.now (opened_of rows.now) (answer_seen a)) }
 {
-    match day_text_of(alloc, rows) {
-        Ok(text) => tell_text(rt, alloc, text, rows),
-        Err(fault) => of_fault(alloc, fault),
+    match open_book(alloc, rows) {
+        Ok(mut book) => {
+            let told = tell_calls(rt, alloc, &mut book, rows);
+            drop(book);
+            Ok(told)
+        }
+        Err(why) => of_no_book(alloc, why),
     }
 }
