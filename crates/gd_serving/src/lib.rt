@@ -26,7 +26,9 @@ mod turn;
 pub use block::take_block;
 pub use failure::{Failure, Finish};
 pub use given::Given;
-pub use laws::{lines_are_cut_again, parts_are_cut_as_a_whole};
+pub use laws::{
+    lines_are_cut_again, lines_are_the_bytes, lines_have_no_line_feed, parts_are_cut_as_a_whole,
+};
 pub use replaying::{ReplayFault, replay};
 pub use serving::serve;
 pub use taking::TakesLines;
