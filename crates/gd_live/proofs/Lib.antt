@@ -1,0 +1,4 @@
+mod Joining
+mod Made
+mod Standing
+mod Taking

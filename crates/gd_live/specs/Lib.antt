@@ -1,0 +1,4 @@
+pub mod Kept
+pub mod Stands
+pub mod Lines
+pub mod Seen

@@ -1,0 +1,116 @@
+//! A book with the board that its postings go to.
+
+ghost use Rattle.std.specs.Prelude.{◌≡◌, true, false, IfOk, length};
+ghost use Rattle.std.specs.Option.{MatchOption};
+ghost use Rattle.gd_machine.specs.History.{is_frozen};
+ghost use Rattle.gd_machine.specs.Asking.{question};
+ghost use Rattle.gd_machine.specs.Headline.{Holds};
+ghost use Rattle.gd_day.specs.Groups.{Passes};
+ghost use Rattle.gd_course.specs.Course.{RowGives};
+
+use gd_board::{Board, BoardNote};
+use gd_book::{Book, Event, Reply as BookReply};
+use gd_course::call;
+use gd_question::Question;
+use gd_replies::Reply;
+use gd_system::System;
+use gd_text_part::{EventRow, Row};
+use gd_units::Name;
+use std::alloc::{AllocError, Global};
+use std::marker::Model;
+use std::thread::Threads;
+
+/// A book with the board that its postings go to.
+///
+/// A contract sees the book.
+#[derive(Drop)]
+pub(crate) struct PostedBook {
+    book: Book,
+    board: Board,
+    note: BoardNote,
+}
+
+impl Model for PostedBook {
+    ghost use Rattle.std.specs.Prelude.{◌≡◌};
+    ghost use Rattle.gd_book.specs.Kept.{Kept};
+
+    ghost Value = { Kept };
+
+    ghost view = { λ b. b.book };
+
+    ghost invariant = { λ b. b.note.cells ≡ b.board };
+}
+
+impl PostedBook {
+    /// A book with a board of its own.
+    pub(crate) fn new(alloc: Global, book: Book) -> PostedBook
+        ensures { result ≡ book }
+    {
+        let board = Board::new(alloc);
+        let note = board.note();
+        PostedBook { book, board, note }
+    }
+
+    /// The pipeline of the book.
+    pub(crate) fn system(&self) -> &System
+        ensures { result.now ≡ self.now.day.holdings.pipeline }
+    {
+        self.book.system()
+    }
+
+    /// The name of the book.
+    pub(crate) fn name(&self) -> Name
+        ensures { result ≡ self.now.day.name }
+    {
+        self.book.name()
+    }
+
+    /// The accepted events with their replies, of which the headline holds.
+    pub(crate) fn history(&self) -> &[(Event, BookReply)]
+        ensures is { result.now ≡ self.now.history }
+        ensures holds { Holds self.now.day self.now.history }
+    {
+        self.book.history()
+    }
+
+    /// The frozen question, if the cycle is frozen.
+    pub(crate) fn frozen(&self) -> Option<&Question>
+        ensures { MatchOption result (is_frozen self.now.history ≡ false)
+            (λ asked. (is_frozen self.now.history ≡ true)
+            × (asked.now ≡ question self.now.day self.now.history)) }
+    {
+        self.book.frozen()
+    }
+
+    /// How many events were accepted.
+    pub(crate) fn event_count(&self) -> usize
+        ensures { result ≡ length self.now.history }
+    {
+        self.book.history().len()
+    }
+
+    /// Makes the call of a row with the rows of its group before it, and tells it. After the error, which is want of memory,
+    /// the history may have grown.
+    pub(crate) fn call(
+        &mut self,
+        rt: &(impl Threads + Sync),
+        alloc: Global,
+        group: &[Row],
+        event: EventRow,
+    ) -> Result<Vec<Reply>, AllocError>
+        requires { Passes self.old.day.holdings.pipeline group.now }
+        ensures gives { IfOk result
+            (λ rows. RowGives self.old.day self.old.history group.now event rows.items self.new.history) }
+        ensures day { self.new.day ≡ self.old.day }
+    {
+        call(
+            rt,
+            alloc,
+            &mut self.book,
+            &self.board,
+            &mut self.note,
+            group,
+            event,
+        )
+    }
+}
