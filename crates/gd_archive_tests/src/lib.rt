@@ -4,12 +4,8 @@
 #[cfg(test)]
 mod bodies;
 #[cfg(test)]
-mod completed;
-#[cfg(test)]
 mod disks;
 #[cfg(test)]
 mod memory;
-#[cfg(test)]
-mod refused;
 #[cfg(test)]
 mod stopped;
