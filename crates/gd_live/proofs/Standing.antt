@@ -106,7 +106,7 @@ does s t line y waits (inr (inl (r, place, isrow, room, other, same, is))) =
     nothing_kept s t y (rw same (one_waits s.number s.group line r place waits isrow other)) (rw same refl) (rw same refl) (rw is refl) (rw is refl)
 does s t line y waits (inr (inr (r, place, e, isrow, room, event, inl (made, settle)))) =
     as_counted s t y (made_stays (counted s) t s.group line e place s.number y made waits (rw (event_row r e event) at isrow))
-does s t line y waits (inr (inr (r, place, e, isrow, room, event, inr (moment, settles, (g, last, concluding, conclusion, made))))) =
+does s t line y waits (inr (inr (r, place, e, isrow, room, event, inr (moment, settles, (g, last, concluding, conclusion, made, grew))))) =
     as_counted s t y (made_stays (counted s) t g last concluding conclusion.place (length g.rows) y made conclusion.group conclusion.reads)
 
 bare_keeps : (s t : Stand) (line : List ℕ) (y : Yield) → IsGroup s.number s.group → BareGives s line t y → Stays s t y

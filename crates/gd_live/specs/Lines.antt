@@ -103,12 +103,12 @@ abbrev pub IsSettle : EventRow → Type 0
 IsSettle (event.Settle moment) = ⊤
 IsSettle e = ⊥
 
--- The call is made as it came; but of a cycle that is settled what it comes to is made in its place.
+-- The call is made as it came; but of a cycle that is settled what it comes to is made in its place, and is accepted.
 abbrev pub Makes : Stand → List ℕ → EventRow → Stand → Yield → Type 0
 Makes s line e after yield =
     (IsMade s s.group line e after yield × (IsSettle e → after.history ≡ s.history))
     ⊎ ((moment : ℕ) × (e ≡ event.Settle moment) × ((g : Group) × (last : List ℕ) × (made : EventRow)
-    × IsConclusion s.history moment g last made × IsMade s g last made after yield))
+    × IsConclusion s.history moment g last made × IsMade s g last made after yield × (after.history ≢ s.history)))
 
 -- The line is faulty as a row: that is told, and the rows that wait are dropped.
 abbrev pub Refuses : Stand → List ℕ → Stand → Yield → Type 0

@@ -151,6 +151,7 @@ impl LiveBook {
         ensures made { result ≡ Ok true → (more : Yield)
             × spec.IsMade (stand_of self.old) conclusion.now.group conclusion.now.line.items conclusion.now.event (stand_of self.new) more
             × Adds (seen given.old) (seen given.new) more }
+        ensures grew { result ≡ Ok true → self.new.book.history ≢ self.old.book.history }
         ensures not { result ≡ Ok false → (self.new ≡ self.old) × (given.new ≡ given.old) }
     {
         let group = conclusion.group.rows();

@@ -16,7 +16,7 @@ returns-in_default g c =
 pub returns-then-branch : goal.returns-then-branch
 returns-then-branch g c =
     settled (stand_of c.args.self.now) (stand_of c.conclude-concluded.new.self) c.args.line.now c.args.moment c.requires.is.0 c.args.conclusion.group c.args.conclusion.line.items c.args.conclusion.event
-    (seen c.args.given.now) (seen c.conclude-concluded.new.given) c.requires.is.1 c.requires.has_room c.requires.conclusion (c.in_ok-concluded.ensures.made (ap Ok c.if-branch.true))
+    (seen c.args.given.now) (seen c.conclude-concluded.new.given) c.requires.is.1 c.requires.has_room c.requires.conclusion (c.in_ok-concluded.ensures.made (ap Ok c.if-branch.true)) (c.in_ok-concluded.ensures.grew (ap Ok c.if-branch.true))
 
 pub returns : goal.returns
 returns g c =
