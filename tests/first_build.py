@@ -1,14 +1,19 @@
-"""Runs `rt ci` in the folder where it is called, as the command itself does, but for the jobs: who builds the program waits for the
-longest chain of crates, each of which stands on the one before, while processors idle at its end. So the crates of each chain
-that is nearly as long as the longest are checked with two jobs. That takes more processor time in all, and less by the clock.
+"""Runs `rt ci` in the folder where it is called, as the command itself does, but for the order of its work: who builds the program
+waits for the longest chain of crates, each of which stands on the one before, while processors idle at its end. So the crates
+of each chain that is nearly as long as the longest are checked with two jobs, which takes more processor time in all, and less
+by the clock; all others are checked at a lower priority; and both compilers build the program at the same time.
 """
 
 import sys
+import threading
+from concurrent.futures import ThreadPoolExecutor
 
 from toolchain import toolchain
 
-# How long a chain is, of the longest, whose crates get two jobs.
+# How long a chain is, of the longest, whose crates come first.
 NEARLY = 0.85
+# What stands before a check that others go before.
+LATER = ["nice", "-n", "10"]
 
 
 def on_long_chains(tasks):
@@ -27,17 +32,44 @@ def on_long_chains(tasks):
     return {key for key, (_, lines) in proofs.items() if before[key] + behind[key] - lines >= NEARLY * longest}
 
 
-def with_two_jobs(tasks):
-    """The tasks, of which those on long chains take two jobs whatever they are given."""
-    long = on_long_chains(tasks)
-    return {key: (*task[:3], (lambda given, _, call=task[3]: call(given, 2)) if key in long else task[3])
-            for key, task in tasks.items()}
+class Ordered:
+    """The toolchain's own steps in this order of work."""
+
+    def __init__(self, rt):
+        self.rt, self.here, self.pool = rt, threading.local(), ThreadPoolExecutor(1)
+        self.guarded, self.in_lanes, self.compile_by = rt.rtlib.guarded, rt.in_lanes, rt.Crate.compile_by
+        self.others = {}
+
+    def words_before(self):
+        """The words before each command that the toolchain starts."""
+        return [*self.guarded(), *(LATER if getattr(self.here, "is_later", False) else [])]
+
+    def run(self, call, given, jobs, is_first):
+        """One task."""
+        self.here.is_later = not is_first
+        return call(given, 2 if is_first else jobs)
+
+    def run_all(self, tasks):
+        """All tasks, of which those on long chains come first."""
+        first = on_long_chains(tasks)
+        return self.in_lanes({
+            key: (*task[:3], lambda given, jobs, call=task[3], is_first=key in first: self.run(call, given, jobs, is_first))
+            for key, task in tasks.items()
+        })
+
+    def compile_both(self, crate, backend, words, to):
+        """The toolchain asks for LLVM's program, and behind that for the other compiler's, which is begun with the first."""
+        if backend == "llvm":
+            self.others[crate.name] = self.pool.submit(self.compile_by, crate, "rattle", words, to)
+            return self.compile_by(crate, backend, words, to)
+        return self.others[crate.name].result()
 
 
 def main():
     rt = toolchain()
-    in_lanes = rt.in_lanes
-    rt.in_lanes = lambda tasks: in_lanes(with_two_jobs(tasks))
+    ordered = Ordered(rt)
+    rt.rtlib.guarded, rt.in_lanes = ordered.words_before, ordered.run_all
+    rt.Crate.compile_by = lambda crate, *given: ordered.compile_both(crate, *given)
     return rt.where_disk_lasts(rt.ci, False)
 
 
