@@ -1,8 +1,12 @@
 -- The forms of the command line.
-use Rattle.std.proofs.Common.{All, drop, ◌≡◌, ◌==◌, ◌∙◌, ℕ, [], ◌∷◌, List, Bool, false, Option, Some, true, refl, sym, ap, subst, inl, inr, codes, is_some, Result, Ok, Err, IfOk, IfErr, OnOk}
+use Rattle.std.proofs.Common.{All, drop, ◌≡◌, ◌==◌, ◌∙◌, ℕ, [], ◌∷◌, List, Bool, false, Option, Some, None, true, refl, sym, ap, subst, inl, inr, codes, is_some, map, Result, Ok, Err, IfOk, IfErr, OnOk}
 use Rattle.std.proofs.lemmas.Option.{same_Some}
 use Rattle.std.proofs.lemmas.List.Elements.{All-nil, All-cons}
-use Rattle.clap.specs.Words.{IsAmong, Kinds, Text, is_simple, is_simple_and_free, takes, fault_of}
+use Rattle.clap.specs.Words.{App, IsAmong, Kinds, Row, Shape, Text, is_simple, is_simple_and_free, takes, fault_of}
+use Rattle.clap.specs.Simple.{built, built_leaf, entered, names_of}
+use Rattle.clap.specs.Walk.{nothing_held, stop_after}
+use Rattle.clap.specs.Takes.{built_takes}
+use Rattle.clap.specs.Faults.{built_fault, level_fault}
 use Rattle.clap.proofs.OnLiterals.{clap_on_literals}
 use Rattle.clap.specs.declared.error.kind.ErrorKind.TheVariants as kind
 use Rattle.gasday_words.specs.declared.order.Request.{Request}
@@ -11,8 +15,11 @@ use Rattle.gasday_words.specs.declared.fault.UsageFault.TheVariants.{Help, Versi
 use Rattle.gasday_words.specs.declared.order.Command.TheVariants.{CheckAllowed, CheckBest, CheckCut, Solve, Calendar, Day, Office}
 use Rattle.gasday_words.specs.Ordered as ordered
 use Rattle.gasday_words.specs.Ordered.{Ordered, Requested, requested, without_texts}
-use Rattle.gasday_words.specs.Meaning.{gasday, meaning_of, arguments, forms, forms_with, helps, versions}
-use Rattle.gasday_words.specs.Outcomes.{IsHelp, IsRequest, IsTold, IsVersion, TakesFiles, TakesForm, TakesForms, TakesHelps, TakesTexts, TakesVersions}
+use Rattle.gasday_words.specs.Meaning as spec
+use Rattle.gasday_words.specs.Meaning.{gasday, meaning_of, arguments, forms, forms_with, day_forms_with, clashes, helps, versions, request_from, request_in}
+use Rattle.gasday_words.specs.Outcomes.{IsHelp, IsRequest, IsTold, IsUsageAnswer, IsVersion, RefusesClashes, TakesDays, TakesFiles, TakesForm, TakesForms, TakesHelps, TakesOver, TakesTexts, TakesVersions}
+use Rattle.gasday_words.proofs.Entering.{Meets, left_to}
+use Rattle.gasday_words.proofs.Plain.{Word, fault_is, faults, known, level, level_is, named, rows, rows_are, text_of}
 
 pub is_simple_gasday : is_simple gasday ≡ true
 unfolding clap_on_literals
@@ -22,282 +29,51 @@ pub is_free_gasday : is_simple_and_free gasday ≡ true
 unfolding clap_on_literals
 is_free_gasday = refl
 
--- ---- what clap makes of each form, whatever the program is called
+-- ---- the commands
 
-alone : (words : List Text) → arguments words ≡ [] → takes gasday words ≡ true
-unfolding clap_on_literals
-alone words h = simp h
+-- the program's command line, built
+abbrev program : App
+program = built gasday
 
-alone_is : (words : List Text) → arguments words ≡ [] → meaning_of words ≡ Some (without_texts (ordered.Text CheckAllowed))
-unfolding clap_on_literals
-alone_is words h = simp h
+-- a command, built
+abbrev leaf : App → Shape
+leaf a = built_leaf a.top
 
-check_allowed : (words : List Text) → arguments words ≡ codes "check" ∷ codes "allowed" ∷ [] → takes gasday words ≡ true
-unfolding clap_on_literals
-check_allowed words h = simp h
+-- the word is met as the name of the command
+abbrev IsNameOf : Text → App → Type 0
+IsNameOf name a = Meets program name (leaf a)
 
-check_allowed_is : (words : List Text) → arguments words ≡ codes "check" ∷ codes "allowed" ∷ [] → meaning_of words ≡ Some (without_texts (ordered.Text CheckAllowed))
+check : IsNameOf (codes "check") spec.check
 unfolding clap_on_literals
-check_allowed_is words h = simp h
+check = record { stops = refl; passes = refl; faultless = refl; found = refl }
 
-check_allowed_of_one : (words : List Text) (a : ℕ) (rest : List ℕ) → (a == 45) ≡ false → arguments words ≡ codes "check" ∷ codes "allowed" ∷ (a ∷ rest) ∷ [] → takes gasday words ≡ true
+solve : IsNameOf (codes "solve") spec.solve
 unfolding clap_on_literals
-check_allowed_of_one words a rest other h = simp (h, other)
+solve = record { stops = refl; passes = refl; faultless = refl; found = refl }
 
-check_allowed_of_one_is : (words : List Text) (a : ℕ) (rest : List ℕ) → (a == 45) ≡ false → arguments words ≡ codes "check" ∷ codes "allowed" ∷ (a ∷ rest) ∷ []
-    → meaning_of words ≡ Some (record { order = ordered.Text CheckAllowed; texts = (a ∷ rest) ∷ [] })
+calendar : IsNameOf (codes "calendar") spec.calendar
 unfolding clap_on_literals
-check_allowed_of_one_is words a rest other h = simp (h, other)
+calendar = record { stops = refl; passes = refl; faultless = refl; found = refl }
 
-check_allowed_of_two : (words : List Text) (a b : ℕ) (rest others : List ℕ) → (a == 45) ≡ false → (b == 45) ≡ false
-    → arguments words ≡ codes "check" ∷ codes "allowed" ∷ (a ∷ rest) ∷ (b ∷ others) ∷ [] → takes gasday words ≡ true
+day : IsNameOf (codes "day") spec.day
 unfolding clap_on_literals
-check_allowed_of_two words a b rest others other another h = simp (h, other, another)
+day = record { stops = refl; passes = refl; faultless = refl; found = refl }
 
-check_allowed_of_two_is : (words : List Text) (a b : ℕ) (rest others : List ℕ) → (a == 45) ≡ false → (b == 45) ≡ false
-    → arguments words ≡ codes "check" ∷ codes "allowed" ∷ (a ∷ rest) ∷ (b ∷ others) ∷ []
-    → meaning_of words ≡ Some (record { order = ordered.Text CheckAllowed; texts = (a ∷ rest) ∷ (b ∷ others) ∷ [] })
+office : IsNameOf (codes "office") spec.office
 unfolding clap_on_literals
-check_allowed_of_two_is words a b rest others other another h = simp (h, other, another)
+office = record { stops = refl; passes = refl; faultless = refl; found = refl }
 
-check_best : (words : List Text) → arguments words ≡ codes "check" ∷ codes "best" ∷ [] → takes gasday words ≡ true
+audit : IsNameOf (codes "audit") spec.audit
 unfolding clap_on_literals
-check_best words h = simp h
+audit = record { stops = refl; passes = refl; faultless = refl; found = refl }
 
-check_best_is : (words : List Text) → arguments words ≡ codes "check" ∷ codes "best" ∷ [] → meaning_of words ≡ Some (without_texts (ordered.Text CheckBest))
+book_text : IsNameOf (codes "text") spec.book_text
 unfolding clap_on_literals
-check_best_is words h = simp h
+book_text = record { stops = refl; passes = refl; faultless = refl; found = refl }
 
-check_best_of_one : (words : List Text) (a : ℕ) (rest : List ℕ) → (a == 45) ≡ false → arguments words ≡ codes "check" ∷ codes "best" ∷ (a ∷ rest) ∷ [] → takes gasday words ≡ true
+migrate : IsNameOf (codes "migrate") spec.migrate
 unfolding clap_on_literals
-check_best_of_one words a rest other h = simp (h, other)
-
-check_best_of_one_is : (words : List Text) (a : ℕ) (rest : List ℕ) → (a == 45) ≡ false → arguments words ≡ codes "check" ∷ codes "best" ∷ (a ∷ rest) ∷ []
-    → meaning_of words ≡ Some (record { order = ordered.Text CheckBest; texts = (a ∷ rest) ∷ [] })
-unfolding clap_on_literals
-check_best_of_one_is words a rest other h = simp (h, other)
-
-check_best_of_two : (words : List Text) (a b : ℕ) (rest others : List ℕ) → (a == 45) ≡ false → (b == 45) ≡ false
-    → arguments words ≡ codes "check" ∷ codes "best" ∷ (a ∷ rest) ∷ (b ∷ others) ∷ [] → takes gasday words ≡ true
-unfolding clap_on_literals
-check_best_of_two words a b rest others other another h = simp (h, other, another)
-
-check_best_of_two_is : (words : List Text) (a b : ℕ) (rest others : List ℕ) → (a == 45) ≡ false → (b == 45) ≡ false
-    → arguments words ≡ codes "check" ∷ codes "best" ∷ (a ∷ rest) ∷ (b ∷ others) ∷ []
-    → meaning_of words ≡ Some (record { order = ordered.Text CheckBest; texts = (a ∷ rest) ∷ (b ∷ others) ∷ [] })
-unfolding clap_on_literals
-check_best_of_two_is words a b rest others other another h = simp (h, other, another)
-
-check_cut : (words : List Text) → arguments words ≡ codes "check" ∷ codes "cut" ∷ [] → takes gasday words ≡ true
-unfolding clap_on_literals
-check_cut words h = simp h
-
-check_cut_is : (words : List Text) → arguments words ≡ codes "check" ∷ codes "cut" ∷ [] → meaning_of words ≡ Some (without_texts (ordered.Text CheckCut))
-unfolding clap_on_literals
-check_cut_is words h = simp h
-
-check_cut_of_one : (words : List Text) (a : ℕ) (rest : List ℕ) → (a == 45) ≡ false → arguments words ≡ codes "check" ∷ codes "cut" ∷ (a ∷ rest) ∷ [] → takes gasday words ≡ true
-unfolding clap_on_literals
-check_cut_of_one words a rest other h = simp (h, other)
-
-check_cut_of_one_is : (words : List Text) (a : ℕ) (rest : List ℕ) → (a == 45) ≡ false → arguments words ≡ codes "check" ∷ codes "cut" ∷ (a ∷ rest) ∷ []
-    → meaning_of words ≡ Some (record { order = ordered.Text CheckCut; texts = (a ∷ rest) ∷ [] })
-unfolding clap_on_literals
-check_cut_of_one_is words a rest other h = simp (h, other)
-
-check_cut_of_two : (words : List Text) (a b : ℕ) (rest others : List ℕ) → (a == 45) ≡ false → (b == 45) ≡ false
-    → arguments words ≡ codes "check" ∷ codes "cut" ∷ (a ∷ rest) ∷ (b ∷ others) ∷ [] → takes gasday words ≡ true
-unfolding clap_on_literals
-check_cut_of_two words a b rest others other another h = simp (h, other, another)
-
-check_cut_of_two_is : (words : List Text) (a b : ℕ) (rest others : List ℕ) → (a == 45) ≡ false → (b == 45) ≡ false
-    → arguments words ≡ codes "check" ∷ codes "cut" ∷ (a ∷ rest) ∷ (b ∷ others) ∷ []
-    → meaning_of words ≡ Some (record { order = ordered.Text CheckCut; texts = (a ∷ rest) ∷ (b ∷ others) ∷ [] })
-unfolding clap_on_literals
-check_cut_of_two_is words a b rest others other another h = simp (h, other, another)
-
-solve : (words : List Text) → arguments words ≡ codes "solve" ∷ [] → takes gasday words ≡ true
-unfolding clap_on_literals
-solve words h = simp h
-
-solve_is : (words : List Text) → arguments words ≡ codes "solve" ∷ [] → meaning_of words ≡ Some (without_texts (ordered.Text Solve))
-unfolding clap_on_literals
-solve_is words h = simp h
-
-solve_of_one : (words : List Text) (a : ℕ) (rest : List ℕ) → (a == 45) ≡ false → arguments words ≡ codes "solve" ∷ (a ∷ rest) ∷ [] → takes gasday words ≡ true
-unfolding clap_on_literals
-solve_of_one words a rest other h = simp (h, other)
-
-solve_of_one_is : (words : List Text) (a : ℕ) (rest : List ℕ) → (a == 45) ≡ false → arguments words ≡ codes "solve" ∷ (a ∷ rest) ∷ []
-    → meaning_of words ≡ Some (record { order = ordered.Text Solve; texts = (a ∷ rest) ∷ [] })
-unfolding clap_on_literals
-solve_of_one_is words a rest other h = simp (h, other)
-
-solve_of_two : (words : List Text) (a b : ℕ) (rest others : List ℕ) → (a == 45) ≡ false → (b == 45) ≡ false
-    → arguments words ≡ codes "solve" ∷ (a ∷ rest) ∷ (b ∷ others) ∷ [] → takes gasday words ≡ true
-unfolding clap_on_literals
-solve_of_two words a b rest others other another h = simp (h, other, another)
-
-solve_of_two_is : (words : List Text) (a b : ℕ) (rest others : List ℕ) → (a == 45) ≡ false → (b == 45) ≡ false
-    → arguments words ≡ codes "solve" ∷ (a ∷ rest) ∷ (b ∷ others) ∷ []
-    → meaning_of words ≡ Some (record { order = ordered.Text Solve; texts = (a ∷ rest) ∷ (b ∷ others) ∷ [] })
-unfolding clap_on_literals
-solve_of_two_is words a b rest others other another h = simp (h, other, another)
-
-calendar : (words : List Text) → arguments words ≡ codes "calendar" ∷ [] → takes gasday words ≡ true
-unfolding clap_on_literals
-calendar words h = simp h
-
-calendar_is : (words : List Text) → arguments words ≡ codes "calendar" ∷ [] → meaning_of words ≡ Some (without_texts (ordered.Text Calendar))
-unfolding clap_on_literals
-calendar_is words h = simp h
-
-calendar_of_one : (words : List Text) (a : ℕ) (rest : List ℕ) → (a == 45) ≡ false → arguments words ≡ codes "calendar" ∷ (a ∷ rest) ∷ [] → takes gasday words ≡ true
-unfolding clap_on_literals
-calendar_of_one words a rest other h = simp (h, other)
-
-calendar_of_one_is : (words : List Text) (a : ℕ) (rest : List ℕ) → (a == 45) ≡ false → arguments words ≡ codes "calendar" ∷ (a ∷ rest) ∷ []
-    → meaning_of words ≡ Some (record { order = ordered.Text Calendar; texts = (a ∷ rest) ∷ [] })
-unfolding clap_on_literals
-calendar_of_one_is words a rest other h = simp (h, other)
-
-calendar_of_two : (words : List Text) (a b : ℕ) (rest others : List ℕ) → (a == 45) ≡ false → (b == 45) ≡ false
-    → arguments words ≡ codes "calendar" ∷ (a ∷ rest) ∷ (b ∷ others) ∷ [] → takes gasday words ≡ true
-unfolding clap_on_literals
-calendar_of_two words a b rest others other another h = simp (h, other, another)
-
-calendar_of_two_is : (words : List Text) (a b : ℕ) (rest others : List ℕ) → (a == 45) ≡ false → (b == 45) ≡ false
-    → arguments words ≡ codes "calendar" ∷ (a ∷ rest) ∷ (b ∷ others) ∷ []
-    → meaning_of words ≡ Some (record { order = ordered.Text Calendar; texts = (a ∷ rest) ∷ (b ∷ others) ∷ [] })
-unfolding clap_on_literals
-calendar_of_two_is words a b rest others other another h = simp (h, other, another)
-
-day : (words : List Text) → arguments words ≡ codes "day" ∷ [] → takes gasday words ≡ true
-unfolding clap_on_literals
-day words h = simp h
-
-day_is : (words : List Text) → arguments words ≡ codes "day" ∷ [] → meaning_of words ≡ Some (without_texts (ordered.Text Day))
-unfolding clap_on_literals
-day_is words h = simp h
-
-day_of_one : (words : List Text) (a : ℕ) (rest : List ℕ) → (a == 45) ≡ false → arguments words ≡ codes "day" ∷ (a ∷ rest) ∷ [] → takes gasday words ≡ true
-unfolding clap_on_literals
-day_of_one words a rest other h = simp (h, other)
-
-day_of_one_is : (words : List Text) (a : ℕ) (rest : List ℕ) → (a == 45) ≡ false → arguments words ≡ codes "day" ∷ (a ∷ rest) ∷ []
-    → meaning_of words ≡ Some (record { order = ordered.Text Day; texts = (a ∷ rest) ∷ [] })
-unfolding clap_on_literals
-day_of_one_is words a rest other h = simp (h, other)
-
-day_of_two : (words : List Text) (a b : ℕ) (rest others : List ℕ) → (a == 45) ≡ false → (b == 45) ≡ false
-    → arguments words ≡ codes "day" ∷ (a ∷ rest) ∷ (b ∷ others) ∷ [] → takes gasday words ≡ true
-unfolding clap_on_literals
-day_of_two words a b rest others other another h = simp (h, other, another)
-
-day_of_two_is : (words : List Text) (a b : ℕ) (rest others : List ℕ) → (a == 45) ≡ false → (b == 45) ≡ false
-    → arguments words ≡ codes "day" ∷ (a ∷ rest) ∷ (b ∷ others) ∷ []
-    → meaning_of words ≡ Some (record { order = ordered.Text Day; texts = (a ∷ rest) ∷ (b ∷ others) ∷ [] })
-unfolding clap_on_literals
-day_of_two_is words a b rest others other another h = simp (h, other, another)
-
-office : (words : List Text) → arguments words ≡ codes "office" ∷ [] → takes gasday words ≡ true
-unfolding clap_on_literals
-office words h = simp h
-
-office_is : (words : List Text) → arguments words ≡ codes "office" ∷ [] → meaning_of words ≡ Some (without_texts (ordered.Text Office))
-unfolding clap_on_literals
-office_is words h = simp h
-
-office_of_one : (words : List Text) (a : ℕ) (rest : List ℕ) → (a == 45) ≡ false → arguments words ≡ codes "office" ∷ (a ∷ rest) ∷ [] → takes gasday words ≡ true
-unfolding clap_on_literals
-office_of_one words a rest other h = simp (h, other)
-
-office_of_one_is : (words : List Text) (a : ℕ) (rest : List ℕ) → (a == 45) ≡ false → arguments words ≡ codes "office" ∷ (a ∷ rest) ∷ []
-    → meaning_of words ≡ Some (record { order = ordered.Text Office; texts = (a ∷ rest) ∷ [] })
-unfolding clap_on_literals
-office_of_one_is words a rest other h = simp (h, other)
-
-office_of_two : (words : List Text) (a b : ℕ) (rest others : List ℕ) → (a == 45) ≡ false → (b == 45) ≡ false
-    → arguments words ≡ codes "office" ∷ (a ∷ rest) ∷ (b ∷ others) ∷ [] → takes gasday words ≡ true
-unfolding clap_on_literals
-office_of_two words a b rest others other another h = simp (h, other, another)
-
-office_of_two_is : (words : List Text) (a b : ℕ) (rest others : List ℕ) → (a == 45) ≡ false → (b == 45) ≡ false
-    → arguments words ≡ codes "office" ∷ (a ∷ rest) ∷ (b ∷ others) ∷ []
-    → meaning_of words ≡ Some (record { order = ordered.Text Office; texts = (a ∷ rest) ∷ (b ∷ others) ∷ [] })
-unfolding clap_on_literals
-office_of_two_is words a b rest others other another h = simp (h, other, another)
-
-archived_day : (words : List Text) (a : ℕ) (rest : List ℕ) → (a == 45) ≡ false → arguments words ≡ codes "day" ∷ codes "--archive" ∷ (a ∷ rest) ∷ [] → takes gasday words ≡ true
-unfolding clap_on_literals
-archived_day words a rest other h = simp (h, other)
-
-archived_day_is : (words : List Text) (a : ℕ) (rest : List ℕ) → (a == 45) ≡ false → arguments words ≡ codes "day" ∷ codes "--archive" ∷ (a ∷ rest) ∷ []
-    → meaning_of words ≡ Some (without_texts (ordered.ArchivedDay (a ∷ rest)))
-unfolding clap_on_literals
-archived_day_is words a rest other h = simp (h, other)
-
-audit : (words : List Text) (a : ℕ) (rest : List ℕ) → (a == 45) ≡ false → arguments words ≡ codes "audit" ∷ (a ∷ rest) ∷ [] → takes gasday words ≡ true
-unfolding clap_on_literals
-audit words a rest other h = simp (h, other)
-
-audit_is : (words : List Text) (a : ℕ) (rest : List ℕ) → (a == 45) ≡ false → arguments words ≡ codes "audit" ∷ (a ∷ rest) ∷ []
-    → meaning_of words ≡ Some (without_texts (ordered.Audit (a ∷ rest)))
-unfolding clap_on_literals
-audit_is words a rest other h = simp (h, other)
-
-migrate : (words : List Text) (a : ℕ) (rest : List ℕ) → (a == 45) ≡ false → arguments words ≡ codes "migrate" ∷ (a ∷ rest) ∷ [] → takes gasday words ≡ true
-unfolding clap_on_literals
-migrate words a rest other h = simp (h, other)
-
-migrate_is : (words : List Text) (a : ℕ) (rest : List ℕ) → (a == 45) ≡ false → arguments words ≡ codes "migrate" ∷ (a ∷ rest) ∷ []
-    → meaning_of words ≡ Some (without_texts (ordered.Migrate (a ∷ rest)))
-unfolding clap_on_literals
-migrate_is words a rest other h = simp (h, other)
-
-help : (words : List Text) → arguments words ≡ codes "--help" ∷ [] → fault_of gasday words ≡ kind.DisplayHelp ∷ []
-unfolding clap_on_literals
-help words h = simp h
-
-short_help : (words : List Text) → arguments words ≡ codes "-h" ∷ [] → fault_of gasday words ≡ kind.DisplayHelp ∷ []
-unfolding clap_on_literals
-short_help words h = simp h
-
-help_of_check : (words : List Text) → arguments words ≡ codes "check" ∷ codes "--help" ∷ [] → fault_of gasday words ≡ kind.DisplayHelp ∷ []
-unfolding clap_on_literals
-help_of_check words h = simp h
-
-help_of_solve : (words : List Text) → arguments words ≡ codes "solve" ∷ codes "--help" ∷ [] → fault_of gasday words ≡ kind.DisplayHelp ∷ []
-unfolding clap_on_literals
-help_of_solve words h = simp h
-
-help_of_calendar : (words : List Text) → arguments words ≡ codes "calendar" ∷ codes "--help" ∷ [] → fault_of gasday words ≡ kind.DisplayHelp ∷ []
-unfolding clap_on_literals
-help_of_calendar words h = simp h
-
-help_of_day : (words : List Text) → arguments words ≡ codes "day" ∷ codes "--help" ∷ [] → fault_of gasday words ≡ kind.DisplayHelp ∷ []
-unfolding clap_on_literals
-help_of_day words h = simp h
-
-help_of_office : (words : List Text) → arguments words ≡ codes "office" ∷ codes "--help" ∷ [] → fault_of gasday words ≡ kind.DisplayHelp ∷ []
-unfolding clap_on_literals
-help_of_office words h = simp h
-
-help_of_audit : (words : List Text) → arguments words ≡ codes "audit" ∷ codes "--help" ∷ [] → fault_of gasday words ≡ kind.DisplayHelp ∷ []
-unfolding clap_on_literals
-help_of_audit words h = simp h
-
-help_of_migrate : (words : List Text) → arguments words ≡ codes "migrate" ∷ codes "--help" ∷ [] → fault_of gasday words ≡ kind.DisplayHelp ∷ []
-unfolding clap_on_literals
-help_of_migrate words h = simp h
-
-version : (words : List Text) → arguments words ≡ codes "--version" ∷ [] → fault_of gasday words ≡ kind.DisplayVersion ∷ []
-unfolding clap_on_literals
-version words h = simp h
-
-short_version : (words : List Text) → arguments words ≡ codes "-V" ∷ [] → fault_of gasday words ≡ kind.DisplayVersion ∷ []
-unfolding clap_on_literals
-short_version words h = simp h
+migrate = record { stops = refl; passes = refl; faultless = refl; found = refl }
 
 -- ---- help is not the version
 
@@ -338,6 +114,15 @@ is_version (Err (Version text)) words asks faultless told = tt
 is_version (Err (Usage text)) words asks faultless told = told.2 asks
 is_version (Err OutOfMemory) words asks faultless told = tt
 
+-- words that clap takes and that mean no request are answered by a usage fault
+is_usage : (r : Result Request UsageFault) (words : List Text) → fault_of gasday words ≡ [] → meaning_of words ≡ None
+    → IfOk r (λ o. meaning_of words ≡ Some (requested o)) → IfErr r (IsTold words) → IsUsageAnswer r
+is_usage (Ok o) words met none ok told = let bad : None ≡ Some (requested o) = sym none ∙ ok in cc
+is_usage (Err (Help text)) words met none ok told = subst (IsAmong kind.DisplayHelp) met told.1
+is_usage (Err (Version text)) words met none ok told = subst (IsAmong kind.DisplayVersion) met told.1
+is_usage (Err (Usage text)) words met none ok told = tt
+is_usage (Err OutOfMemory) words met none ok told = tt
+
 -- what clap makes of words holds of the answer to them
 pub record IsClaps (words : List Text) (r : Result Request UsageFault) : Type 0 where
   pub meaning : IfOk r (λ o. meaning_of words ≡ Some (requested o))
@@ -345,52 +130,99 @@ pub record IsClaps (words : List Text) (r : Result Request UsageFault) : Type 0 
   pub taken : IfErr r (λ e. takes gasday words ≡ true → is_some (meaning_of words) ≡ true → e ≡ OutOfMemory)
   pub faults : IfErr r (IsTold words)
 
-answered : (words : List Text) (r : Result Request UsageFault) → IsClaps words r → (m : Requested)
-    → takes gasday words ≡ true → meaning_of words ≡ Some m → IsRequest m r
-answered words r by m taken meaning = is_request r (meaning_of words) (takes gasday words) m taken meaning by.meaning by.taken
+module _ (words : List Text) (r : Result Request UsageFault) (by : IsClaps words r) where
+  -- ---- words that name no command
+
+  alone : arguments words ≡ [] → IsRequest (without_texts (ordered.Text CheckAllowed)) r
+  unfolding clap_on_literals
+  alone h =
+      let taken : takes gasday words ≡ true = ap (λ (ws : List Text). built_takes program nothing_held ws) h in
+      let means : meaning_of words ≡ Some (without_texts (ordered.Text CheckAllowed)) =
+      ap (λ (ws : List Text). request_in (entered program (stop_after program.top.rules (names_of program) ws))) h in
+      is_request r (meaning_of words) (takes gasday words) _ taken means by.meaning by.taken
+
+  helped : fault_of gasday words ≡ kind.DisplayHelp ∷ [] → IsHelp r
+  helped asks = is_help r words asks by.faultless by.faults
+
+  versioned : fault_of gasday words ≡ kind.DisplayVersion ∷ [] → IsVersion r
+  versioned asks = is_version r words asks by.faultless by.faults
+
+  -- ---- words that name a command
+
+  module _ (name : Text) (a : App) (is_name : IsNameOf name a) (vs : List Word) (passes : level (leaf a) vs ≡ true) (h : arguments words ≡ name ∷ map text_of vs) where
+    meaning_is : meaning_of words ≡ request_from (leaf a).name (rows (leaf a) vs)
+    meaning_is = ap request_in (left_to name (leaf a) is_name words (map text_of vs) h).subcommand
+        ∙ ap (λ (given : List Row). request_from (leaf a).name given) (rows_are (leaf a) vs passes)
+
+    -- words that mean a request are answered by it
+    answered_by : (m : Requested) → request_from (leaf a).name (rows (leaf a) vs) ≡ Some m → IsRequest m r
+    answered_by m means =
+        let taken = (left_to name (leaf a) is_name words (map text_of vs) h).takes ∙ level_is (leaf a) vs passes in
+        is_request r (meaning_of words) (takes gasday words) m taken (meaning_is ∙ means) by.meaning by.taken
+
+    -- words in which clap finds no fault, and which mean none, are answered by a usage fault
+    refused : faults (leaf a) vs ≡ [] → request_from (leaf a).name (rows (leaf a) vs) ≡ None → IsUsageAnswer r
+    refused faultless means =
+        let met = (left_to name (leaf a) is_name words (map text_of vs) h).fault ∙ fault_is (leaf a) vs passes ∙ faultless in
+        is_usage r words met (meaning_is ∙ means) by.meaning by.faults
+
+  -- a command's name with `--help` behind it is answered by help
+  helped_with : (name : Text) (a : App) → IsNameOf name a → level_fault (leaf a) [] nothing_held (codes "--help" ∷ []) false [] ≡ kind.DisplayHelp ∷ []
+      → arguments words ≡ name ∷ codes "--help" ∷ [] → IsHelp r
+  helped_with name a is_name asks h = helped ((left_to name (leaf a) is_name words (codes "--help" ∷ []) h).fault ∙ asks)
+
+-- an order over these texts
+abbrev over : Ordered → List Word → Requested
+over o vs = record { order = o; texts = map text_of vs }
 
 -- words of each command that answers a text are answered by it, over standard input
 pub takes_forms : (words : List Text) (r : Result Request UsageFault) → IsClaps words r → TakesForms words r
+unfolding clap_on_literals
 takes_forms words r by =
     let P = TakesForm words [] r in
-    let is = answered words r by in (
-      λ h. is _ (alone words h) (alone_is words h),
-      All-cons P _ (drop 1 forms) (λ h. is _ (check_allowed words h) (check_allowed_is words h))
-          (All-cons P _ (drop 2 forms) (λ h. is _ (check_best words h) (check_best_is words h))
-          (All-cons P _ (drop 3 forms) (λ h. is _ (check_cut words h) (check_cut_is words h))
-          (All-cons P _ (drop 4 forms) (λ h. is _ (solve words h) (solve_is words h))
-          (All-cons P _ (drop 5 forms) (λ h. is _ (calendar words h) (calendar_is words h))
-          (All-cons P _ (drop 6 forms) (λ h. is _ (day words h) (day_is words h))
-          (All-cons P _ (drop 7 forms) (λ h. is _ (office words h) (office_is words h))
+    let is = answered_by words r by in (
+      alone words r by,
+      All-cons P _ (drop 1 forms) (λ h. is (codes "check") spec.check check (known (codes "allowed") ∷ []) refl h (over (ordered.Text CheckAllowed) ([])) refl)
+          (All-cons P _ (drop 2 forms) (λ h. is (codes "check") spec.check check (known (codes "best") ∷ []) refl h (over (ordered.Text CheckBest) ([])) refl)
+          (All-cons P _ (drop 3 forms) (λ h. is (codes "check") spec.check check (known (codes "cut") ∷ []) refl h (over (ordered.Text CheckCut) ([])) refl)
+          (All-cons P _ (drop 4 forms) (λ h. is (codes "solve") spec.solve solve ([]) refl h (over (ordered.Text Solve) ([])) refl)
+          (All-cons P _ (drop 5 forms) (λ h. is (codes "calendar") spec.calendar calendar ([]) refl h (over (ordered.Text Calendar) ([])) refl)
+          (All-cons P _ (drop 6 forms) (λ h. is (codes "day") spec.day day ([]) refl h (over (ordered.Text Day) ([])) refl)
+          (All-cons P _ (drop 7 forms) (λ h. is (codes "office") spec.office office ([]) refl h (over (ordered.Text Office) ([])) refl)
           (All-nil P))))))),
     )
 
--- words of each command with the names of one file behind them are answered by it, over that file
+-- words of each command with the name of one file behind them are answered by it, over that file
 of_one : (words : List Text) (r : Result Request UsageFault) → IsClaps words r → (a : ℕ) (rest : List ℕ) → (a == 45) ≡ false → All (TakesForm words ((a ∷ rest) ∷ []) r) forms
+unfolding clap_on_literals
 of_one words r by a rest other =
     let P = TakesForm words ((a ∷ rest) ∷ []) r in
-    let is = answered words r by in
-    All-cons P _ (drop 1 forms) (λ h. is _ (check_allowed_of_one words a rest other h) (check_allowed_of_one_is words a rest other h))
-    (All-cons P _ (drop 2 forms) (λ h. is _ (check_best_of_one words a rest other h) (check_best_of_one_is words a rest other h))
-    (All-cons P _ (drop 3 forms) (λ h. is _ (check_cut_of_one words a rest other h) (check_cut_of_one_is words a rest other h))
-    (All-cons P _ (drop 4 forms) (λ h. is _ (solve_of_one words a rest other h) (solve_of_one_is words a rest other h))
-    (All-cons P _ (drop 5 forms) (λ h. is _ (calendar_of_one words a rest other h) (calendar_of_one_is words a rest other h))
-    (All-cons P _ (drop 6 forms) (λ h. is _ (day_of_one words a rest other h) (day_of_one_is words a rest other h))
-    (All-cons P _ (drop 7 forms) (λ h. is _ (office_of_one words a rest other h) (office_of_one_is words a rest other h))
+    let A = named a rest other in
+    let is = answered_by words r by in
+    All-cons P _ (drop 1 forms) (λ h. is (codes "check") spec.check check (known (codes "allowed") ∷ A ∷ []) refl h (over (ordered.Text CheckAllowed) (A ∷ [])) refl)
+    (All-cons P _ (drop 2 forms) (λ h. is (codes "check") spec.check check (known (codes "best") ∷ A ∷ []) refl h (over (ordered.Text CheckBest) (A ∷ [])) refl)
+    (All-cons P _ (drop 3 forms) (λ h. is (codes "check") spec.check check (known (codes "cut") ∷ A ∷ []) refl h (over (ordered.Text CheckCut) (A ∷ [])) refl)
+    (All-cons P _ (drop 4 forms) (λ h. is (codes "solve") spec.solve solve (A ∷ []) refl h (over (ordered.Text Solve) (A ∷ [])) refl)
+    (All-cons P _ (drop 5 forms) (λ h. is (codes "calendar") spec.calendar calendar (A ∷ []) refl h (over (ordered.Text Calendar) (A ∷ [])) refl)
+    (All-cons P _ (drop 6 forms) (λ h. is (codes "day") spec.day day (A ∷ []) refl h (over (ordered.Text Day) (A ∷ [])) refl)
+    (All-cons P _ (drop 7 forms) (λ h. is (codes "office") spec.office office (A ∷ []) refl h (over (ordered.Text Office) (A ∷ [])) refl)
     (All-nil P)))))))
 
 of_two : (words : List Text) (r : Result Request UsageFault) → IsClaps words r → (a b : ℕ) (rest others : List ℕ) → (a == 45) ≡ false → (b == 45) ≡ false
     → All (TakesForm words ((a ∷ rest) ∷ (b ∷ others) ∷ []) r) forms
+unfolding clap_on_literals
 of_two words r by a b rest others other another =
     let P = TakesForm words ((a ∷ rest) ∷ (b ∷ others) ∷ []) r in
-    let is = answered words r by in
-    All-cons P _ (drop 1 forms) (λ h. is _ (check_allowed_of_two words a b rest others other another h) (check_allowed_of_two_is words a b rest others other another h))
-    (All-cons P _ (drop 2 forms) (λ h. is _ (check_best_of_two words a b rest others other another h) (check_best_of_two_is words a b rest others other another h))
-    (All-cons P _ (drop 3 forms) (λ h. is _ (check_cut_of_two words a b rest others other another h) (check_cut_of_two_is words a b rest others other another h))
-    (All-cons P _ (drop 4 forms) (λ h. is _ (solve_of_two words a b rest others other another h) (solve_of_two_is words a b rest others other another h))
-    (All-cons P _ (drop 5 forms) (λ h. is _ (calendar_of_two words a b rest others other another h) (calendar_of_two_is words a b rest others other another h))
-    (All-cons P _ (drop 6 forms) (λ h. is _ (day_of_two words a b rest others other another h) (day_of_two_is words a b rest others other another h))
-    (All-cons P _ (drop 7 forms) (λ h. is _ (office_of_two words a b rest others other another h) (office_of_two_is words a b rest others other another h))
+    let A = named a rest other in
+    let B = named b others another in
+    let is = answered_by words r by in
+    All-cons P _ (drop 1 forms) (λ h. is (codes "check") spec.check check (known (codes "allowed") ∷ A ∷ B ∷ []) refl h (over (ordered.Text CheckAllowed) (A ∷ B ∷ [])) refl)
+    (All-cons P _ (drop 2 forms) (λ h. is (codes "check") spec.check check (known (codes "best") ∷ A ∷ B ∷ []) refl h (over (ordered.Text CheckBest) (A ∷ B ∷ [])) refl)
+    (All-cons P _ (drop 3 forms) (λ h. is (codes "check") spec.check check (known (codes "cut") ∷ A ∷ B ∷ []) refl h (over (ordered.Text CheckCut) (A ∷ B ∷ [])) refl)
+    (All-cons P _ (drop 4 forms) (λ h. is (codes "solve") spec.solve solve (A ∷ B ∷ []) refl h (over (ordered.Text Solve) (A ∷ B ∷ [])) refl)
+    (All-cons P _ (drop 5 forms) (λ h. is (codes "calendar") spec.calendar calendar (A ∷ B ∷ []) refl h (over (ordered.Text Calendar) (A ∷ B ∷ [])) refl)
+    (All-cons P _ (drop 6 forms) (λ h. is (codes "day") spec.day day (A ∷ B ∷ []) refl h (over (ordered.Text Day) (A ∷ B ∷ [])) refl)
+    (All-cons P _ (drop 7 forms) (λ h. is (codes "office") spec.office office (A ∷ B ∷ []) refl h (over (ordered.Text Office) (A ∷ B ∷ [])) refl)
     (All-nil P)))))))
 
 -- words of each command with the names of one or two files behind them are answered by it, over these files
@@ -398,38 +230,78 @@ pub takes_texts : (words : List Text) (r : Result Request UsageFault) → IsClap
 takes_texts words r by a b rest others other another =
     (of_one words r by a rest other, of_two words r by a b rest others other another)
 
--- words of each form that names an archive are answered by its order
+-- words of each form that names an archive or a book's file are answered by its order
 pub takes_files : (words : List Text) (r : Result Request UsageFault) → IsClaps words r → TakesFiles words r
+unfolding clap_on_literals
 takes_files words r by a rest other =
     let file = a ∷ rest in
     let P : List Text × Ordered → Type 0 = λ form. arguments words ≡ form.0 → IsRequest (without_texts form.1) r in
-    let is = answered words r by in
-    All-cons P _ (drop 1 (forms_with file)) (λ h. is _ (archived_day words a rest other h) (archived_day_is words a rest other h))
-    (All-cons P _ (drop 2 (forms_with file)) (λ h. is _ (audit words a rest other h) (audit_is words a rest other h))
-    (All-cons P _ (drop 3 (forms_with file)) (λ h. is _ (migrate words a rest other h) (migrate_is words a rest other h))
-    (All-nil P)))
+    let F = named a rest other in
+    let is = answered_by words r by in
+    All-cons P _ (drop 1 (forms_with file)) (λ h. is (codes "day") spec.day day (known (codes "--archive") ∷ F ∷ []) refl h (without_texts (ordered.ArchivedDay file)) refl)
+    (All-cons P _ (drop 2 (forms_with file)) (λ h. is (codes "day") spec.day day (known (codes "--book") ∷ F ∷ []) refl h (without_texts (ordered.LiveDay file)) refl)
+    (All-cons P _ (drop 3 (forms_with file)) (λ h. is (codes "audit") spec.audit audit (F ∷ []) refl h (without_texts (ordered.Audit file)) refl)
+    (All-cons P _ (drop 4 (forms_with file)) (λ h. is (codes "text") spec.book_text book_text (F ∷ []) refl h (without_texts (ordered.BookText file)) refl)
+    (All-cons P _ (drop 5 (forms_with file)) (λ h. is (codes "migrate") spec.migrate migrate (F ∷ []) refl h (without_texts (ordered.Migrate file)) refl)
+    (All-nil P)))))
+
+-- words of each form of a gas day that names a file, with the names of one or two files behind them, are answered by its order
+-- over these files
+pub takes_days : (words : List Text) (r : Result Request UsageFault) → IsClaps words r → TakesDays words r
+unfolding clap_on_literals
+takes_days words r by c file filed a b rest others other another =
+    let P : List Text → List Text × Ordered → Type 0 = λ texts. TakesOver words texts r in
+    let one = (a ∷ rest) ∷ [] in
+    let two = (a ∷ rest) ∷ (b ∷ others) ∷ [] in
+    let days = day_forms_with (c ∷ file) in
+    let F = named c file filed in
+    let A = named a rest other in
+    let B = named b others another in
+    let is = answered_by words r by in (
+      All-cons (P one) _ (drop 1 days) (λ h. is (codes "day") spec.day day (known (codes "--archive") ∷ F ∷ A ∷ []) refl h (over (ordered.ArchivedDay (c ∷ file)) (A ∷ [])) refl)
+          (All-cons (P one) _ (drop 2 days) (λ h. is (codes "day") spec.day day (known (codes "--book") ∷ F ∷ A ∷ []) refl h (over (ordered.LiveDay (c ∷ file)) (A ∷ [])) refl)
+          (All-nil (P one))),
+      All-cons (P two) _ (drop 1 days) (λ h. is (codes "day") spec.day day (known (codes "--archive") ∷ F ∷ A ∷ B ∷ []) refl h (over (ordered.ArchivedDay (c ∷ file)) (A ∷ B ∷ [])) refl)
+          (All-cons (P two) _ (drop 2 days) (λ h. is (codes "day") spec.day day (known (codes "--book") ∷ F ∷ A ∷ B ∷ []) refl h (over (ordered.LiveDay (c ∷ file)) (A ∷ B ∷ [])) refl)
+          (All-nil (P two))),
+    )
+
+-- words of each form that names two files for one gas day are answered by a usage fault
+pub refuses_clashes : (words : List Text) (r : Result Request UsageFault) → IsClaps words r → RefusesClashes words r
+unfolding clap_on_literals
+refuses_clashes words r by a b rest others other another =
+    let P : List Text → Type 0 = λ form. arguments words ≡ form → IsUsageAnswer r in
+    let both = clashes (a ∷ rest) (b ∷ others) in
+    let A = named a rest other in
+    let B = named b others another in
+    let is = refused words r by in
+    All-cons P _ (drop 1 both) (λ h. is (codes "day") spec.day day (known (codes "--archive") ∷ A ∷ known (codes "--book") ∷ B ∷ []) refl h refl refl)
+    (All-cons P _ (drop 2 both) (λ h. is (codes "day") spec.day day (known (codes "--book") ∷ A ∷ known (codes "--archive") ∷ B ∷ []) refl h refl refl)
+    (All-nil P))
 
 -- words of each form that asks for help are answered by help
 pub takes_helps : (words : List Text) (r : Result Request UsageFault) → IsClaps words r → TakesHelps words r
+unfolding clap_on_literals
 takes_helps words r by =
     let P : List Text → Type 0 = λ form. arguments words ≡ form → IsHelp r in
-    let is : fault_of gasday words ≡ kind.DisplayHelp ∷ [] → IsHelp r = λ asks. is_help r words asks by.faultless by.faults in
-    All-cons P _ (drop 1 helps) (λ h. is (help words h))
-    (All-cons P _ (drop 2 helps) (λ h. is (short_help words h))
-    (All-cons P _ (drop 3 helps) (λ h. is (help_of_check words h))
-    (All-cons P _ (drop 4 helps) (λ h. is (help_of_solve words h))
-    (All-cons P _ (drop 5 helps) (λ h. is (help_of_calendar words h))
-    (All-cons P _ (drop 6 helps) (λ h. is (help_of_day words h))
-    (All-cons P _ (drop 7 helps) (λ h. is (help_of_office words h))
-    (All-cons P _ (drop 8 helps) (λ h. is (help_of_audit words h))
-    (All-cons P _ (drop 9 helps) (λ h. is (help_of_migrate words h))
-    (All-nil P)))))))))
+    let is = helped_with words r by in
+    All-cons P _ (drop 1 helps) (λ h. helped words r by (ap (λ (ws : List Text). built_fault program nothing_held ws) h))
+    (All-cons P _ (drop 2 helps) (λ h. helped words r by (ap (λ (ws : List Text). built_fault program nothing_held ws) h))
+    (All-cons P _ (drop 3 helps) (is (codes "check") spec.check check refl)
+    (All-cons P _ (drop 4 helps) (is (codes "solve") spec.solve solve refl)
+    (All-cons P _ (drop 5 helps) (is (codes "calendar") spec.calendar calendar refl)
+    (All-cons P _ (drop 6 helps) (is (codes "day") spec.day day refl)
+    (All-cons P _ (drop 7 helps) (is (codes "office") spec.office office refl)
+    (All-cons P _ (drop 8 helps) (is (codes "audit") spec.audit audit refl)
+    (All-cons P _ (drop 9 helps) (is (codes "text") spec.book_text book_text refl)
+    (All-cons P _ (drop 10 helps) (is (codes "migrate") spec.migrate migrate refl)
+    (All-nil P))))))))))
 
 -- words of each form that asks for the version are answered by the version
 pub takes_versions : (words : List Text) (r : Result Request UsageFault) → IsClaps words r → TakesVersions words r
+unfolding clap_on_literals
 takes_versions words r by =
     let P : List Text → Type 0 = λ form. arguments words ≡ form → IsVersion r in
-    let is : fault_of gasday words ≡ kind.DisplayVersion ∷ [] → IsVersion r = λ asks. is_version r words asks by.faultless by.faults in
-    All-cons P _ (drop 1 versions) (λ h. is (version words h))
-    (All-cons P _ (drop 2 versions) (λ h. is (short_version words h))
+    All-cons P _ (drop 1 versions) (λ h. versioned words r by (ap (λ (ws : List Text). built_fault program nothing_held ws) h))
+    (All-cons P _ (drop 2 versions) (λ h. versioned words r by (ap (λ (ws : List Text). built_fault program nothing_held ws) h))
     (All-nil P))

@@ -1,3 +1,6 @@
+pub mod Commands
+pub mod Entering
 pub mod Forms
+pub mod Plain
 pub mod Rows
 pub mod Telling

@@ -31,6 +31,10 @@ texts = record (new_rule (codes "text")) {
 abbrev pub archive : Rule
 archive = record (new_rule (codes "archive")) { value_names = 1; long = Some (codes "archive") }
 
+-- `--book FILE`, which may be left out
+abbrev pub book : Rule
+book = record (new_rule (codes "book")) { value_names = 1; long = Some (codes "book") }
+
 -- `check WHAT [TEXT]..`
 abbrev pub check : App
 check = with_rule (with_rule (new_app (codes "check")) what) texts
@@ -43,9 +47,9 @@ solve = with_rule (new_app (codes "solve")) texts
 abbrev pub calendar : App
 calendar = with_rule (new_app (codes "calendar")) texts
 
--- `day [--archive FILE] [TEXT]..`
+-- `day [--archive FILE] [--book FILE] [TEXT]..`
 abbrev pub day : App
-day = with_rule (with_rule (new_app (codes "day")) archive) texts
+day = with_rule (with_rule (with_rule (new_app (codes "day")) archive) book) texts
 
 -- `office [TEXT]..`
 abbrev pub office : App
@@ -54,6 +58,10 @@ office = with_rule (new_app (codes "office")) texts
 -- `audit FILE`
 abbrev pub audit : App
 audit = with_rule (new_app (codes "audit")) file
+
+-- `text FILE`
+abbrev pub book_text : App
+book_text = with_rule (new_app (codes "text")) file
 
 -- `migrate FILE`
 abbrev pub migrate : App
@@ -75,7 +83,7 @@ with_texts =
 
 -- the program's command line
 abbrev pub gasday : App
-gasday = with_subcommand (with_subcommand with_texts audit.top) migrate.top
+gasday = with_subcommand (with_subcommand (with_subcommand with_texts audit.top) book_text.top) migrate.top
 
 -- ---- the meaning of words
 
@@ -88,10 +96,12 @@ check_named (Some word) =
     else if bytes_eq word (codes "cut") then Some CheckCut
     else None
 
--- a gas day, kept in the archive where there is one
-abbrev pub day_kept_in : Option Text → Ordered
-day_kept_in None = ordered.Text Day
-day_kept_in (Some file) = ordered.ArchivedDay file
+-- a gas day, with an archive or on a book's file where one is named; both together name no order
+abbrev pub day_kept_in : Option Text → Option Text → Option Ordered
+day_kept_in None None = Some (ordered.Text Day)
+day_kept_in (Some name) None = Some (ordered.ArchivedDay name)
+day_kept_in None (Some name) = Some (ordered.LiveDay name)
+day_kept_in (Some name) (Some other) = None
 
 -- the order of a subcommand's name and of what it was given
 abbrev pub order_from : Text → List Row → Option Ordered
@@ -99,9 +109,10 @@ order_from name given =
     if bytes_eq name (codes "check") then option_map ordered.Text (check_named (first_of (codes "what") given))
     else if bytes_eq name (codes "solve") then Some (ordered.Text Solve)
     else if bytes_eq name (codes "calendar") then Some (ordered.Text Calendar)
-    else if bytes_eq name (codes "day") then Some (day_kept_in (first_of (codes "archive") given))
+    else if bytes_eq name (codes "day") then day_kept_in (first_of (codes "archive") given) (first_of (codes "book") given)
     else if bytes_eq name (codes "office") then Some (ordered.Text Office)
     else if bytes_eq name (codes "audit") then option_map ordered.Audit (first_of (codes "file") given)
+    else if bytes_eq name (codes "text") then option_map ordered.BookText (first_of (codes "file") given)
     else if bytes_eq name (codes "migrate") then option_map ordered.Migrate (first_of (codes "file") given)
     else None
 
@@ -139,12 +150,29 @@ forms =
     ∷ (codes "office" ∷ [], Office)
     ∷ []
 
--- the forms of the program that name this archive: the words behind its name, and the order that they are
+-- the forms of the program that name this archive or this book's file: the words behind its name, and the order that they are
 abbrev pub forms_with : Text → List (List Text × Ordered)
 forms_with file =
     (codes "day" ∷ codes "--archive" ∷ file ∷ [], ordered.ArchivedDay file)
+    ∷ (codes "day" ∷ codes "--book" ∷ file ∷ [], ordered.LiveDay file)
     ∷ (codes "audit" ∷ file ∷ [], ordered.Audit file)
+    ∷ (codes "text" ∷ file ∷ [], ordered.BookText file)
     ∷ (codes "migrate" ∷ file ∷ [], ordered.Migrate file)
+    ∷ []
+
+-- the forms of a gas day that name this file, with which texts may stand: the words behind the program's name, and the order
+-- that they are
+abbrev pub day_forms_with : Text → List (List Text × Ordered)
+day_forms_with file =
+    (codes "day" ∷ codes "--archive" ∷ file ∷ [], ordered.ArchivedDay file)
+    ∷ (codes "day" ∷ codes "--book" ∷ file ∷ [], ordered.LiveDay file)
+    ∷ []
+
+-- the forms that name these two files for one gas day, an archive and a book's file, and so are no order
+abbrev pub clashes : Text → Text → List (List Text)
+clashes file other =
+    (codes "day" ∷ codes "--archive" ∷ file ∷ codes "--book" ∷ other ∷ [])
+    ∷ (codes "day" ∷ codes "--book" ∷ file ∷ codes "--archive" ∷ other ∷ [])
     ∷ []
 
 -- the forms that ask for help
@@ -158,6 +186,7 @@ helps =
     ∷ (codes "day" ∷ codes "--help" ∷ [])
     ∷ (codes "office" ∷ codes "--help" ∷ [])
     ∷ (codes "audit" ∷ codes "--help" ∷ [])
+    ∷ (codes "text" ∷ codes "--help" ∷ [])
     ∷ (codes "migrate" ∷ codes "--help" ∷ [])
     ∷ []
 

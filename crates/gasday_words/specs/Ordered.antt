@@ -9,6 +9,8 @@ use Rattle.gasday_words.specs.declared.order.Request.{Request}
 pub data Ordered : Type 0 where
   Text : Command → Ordered
   ArchivedDay : List ℕ → Ordered
+  LiveDay : List ℕ → Ordered
+  BookText : List ℕ → Ordered
   Audit : List ℕ → Ordered
   Migrate : List ℕ → Ordered
 
@@ -16,6 +18,8 @@ pub data Ordered : Type 0 where
 abbrev pub seen : Order → Ordered
 seen (order.Text command) = Text command
 seen (order.ArchivedDay file) = ArchivedDay file.now
+seen (order.LiveDay file) = LiveDay file.now
+seen (order.BookText file) = BookText file.now
 seen (order.Audit file) = Audit file.now
 seen (order.Migrate file) = Migrate file.now
 

@@ -9,8 +9,8 @@ use Rattle.gasday_words.specs.declared.order.Request.{Request}
 use Rattle.gasday_words.specs.declared.fault.UsageFault.{UsageFault}
 use Rattle.gasday_words.specs.declared.fault.UsageFault.TheVariants.{Help, Version, Usage, OutOfMemory}
 use Rattle.gasday_words.specs.Ordered as ordered
-use Rattle.gasday_words.specs.Ordered.{Requested, requested, without_texts}
-use Rattle.gasday_words.specs.Meaning.{gasday, meaning_of, arguments, forms, forms_with, helps, versions}
+use Rattle.gasday_words.specs.Ordered.{Ordered, Requested, requested, without_texts}
+use Rattle.gasday_words.specs.Meaning.{gasday, meaning_of, arguments, forms, forms_with, day_forms_with, clashes, helps, versions}
 
 -- what is left of a request where clap finds these kinds of fault in the words
 abbrev pub unless_at_fault : Kinds → Option Requested → Option Requested
@@ -72,6 +72,10 @@ IsHelp r = MatchResult r (λ _. ⊥) IsHelpFault
 abbrev pub IsVersion : Result Request UsageFault → Type 0
 IsVersion r = MatchResult r (λ _. ⊥) IsVersionFault
 
+-- the answer is a usage fault, but for want of memory
+abbrev pub IsUsageAnswer : Result Request UsageFault → Type 0
+IsUsageAnswer r = MatchResult r (λ _. ⊥) IsUsage
+
 -- words of each command that answers a text, with these words behind them, are taken as that command over these texts
 abbrev pub TakesForm : List Text → List Text → Result Request UsageFault → List Text × Command → Type 0
 TakesForm words texts r form =
@@ -98,12 +102,29 @@ OfOneOrTwo says =
 abbrev pub TakesTexts : List Text → Result Request UsageFault → Type 0
 TakesTexts words r = OfOneOrTwo (λ texts. All (TakesForm words texts r) forms)
 
--- words of each form that names an archive are taken as its order, whatever the file: a name that isn't
+-- words of each form that names an archive or a book's file are taken as its order, whatever the file: a name that isn't
 -- empty, and doesn't begin with `-`
 abbrev pub TakesFiles : List Text → Result Request UsageFault → Type 0
 TakesFiles words r =
     (b : ℕ) (rest : List ℕ) → (b == hyphen) ≡ false
     → All (λ form. arguments words ≡ form.0 → IsRequest (without_texts form.1) r) (forms_with (b ∷ rest))
+
+-- words of a form that names a file, with these words behind them, are taken as its order over these texts
+abbrev pub TakesOver : List Text → List Text → Result Request UsageFault → List Text × Ordered → Type 0
+TakesOver words texts r form = arguments words ≡ form.0 ++ texts → IsRequest (record { order = form.1; texts = texts }) r
+
+-- words of each form of a gas day that names a file, whatever its name, with the names of one or two files behind them, are
+-- taken as its order over these files
+abbrev pub TakesDays : List Text → Result Request UsageFault → Type 0
+TakesDays words r =
+    (c : ℕ) (file : List ℕ) → (c == hyphen) ≡ false
+    → OfOneOrTwo (λ texts. All (TakesOver words texts r) (day_forms_with (c ∷ file)))
+
+-- words of each form that names two files for one gas day are a usage fault, whatever the files
+abbrev pub RefusesClashes : List Text → Result Request UsageFault → Type 0
+RefusesClashes words r =
+    (a b : ℕ) (rest others : List ℕ) → (a == hyphen) ≡ false → (b == hyphen) ≡ false
+    → All (λ form. arguments words ≡ form → IsUsageAnswer r) (clashes (a ∷ rest) (b ∷ others))
 
 -- words of each form that asks for help are answered by help
 abbrev pub TakesHelps : List Text → Result Request UsageFault → Type 0

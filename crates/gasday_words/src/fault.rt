@@ -47,11 +47,20 @@ fn text_of_unknown_check(alloc: Global, word: &str) -> Result<String, AllocError
     )
 }
 
-/// `check` was given this word, and there is no such check.
-pub(crate) fn unknown_check(alloc: Global, word: &str) -> UsageFault
+/// What is told of two options that exclude each other.
+const CLASH: &str = "error: '--book' can't be used with '--archive'\n\n\
+     For more information, try '--help'.\n";
+
+/// `check` was given this word, and there is no such check; or, without a word, `day` was given both an archive and a book's
+/// file.
+pub(crate) fn no_order(alloc: Global, word_after_check: Option<&str>) -> UsageFault
     ensures { IsUsage result }
 {
-    match text_of_unknown_check(alloc, word) {
+    let text = match word_after_check {
+        Some(word) => text_of_unknown_check(alloc, word),
+        None => String::from_str(alloc, CLASH),
+    };
+    match text {
         Ok(text) => UsageFault::Usage(text),
         Err(_) => UsageFault::OutOfMemory,
     }

@@ -5,8 +5,9 @@
 /// What stands under the help of the program.
 pub(crate) const SHORT: &str = "With no command it does what 'check allowed' does.
 
-Example:
+Examples:
   gasday check allowed < examples/two-lines.csv
+  gasday day --book 0308.book < examples/gas-day/two-cycles.csv
 
 'gasday --help' tells each row that is read, each fault with its remedy, and the exit statuses;
 'gasday COMMAND --help' tells what a command prints.";
@@ -22,14 +23,16 @@ standard error, with the line of the text as an editor counts it.
 Examples:
   gasday check allowed examples/two-lines.csv
   gasday check allowed < examples/two-lines.csv
+  gasday day --book 0308.book < examples/gas-day/two-cycles.csv
 
 Exit status:
   0                   The answer is good. Calls of a day that are refused don't change that.
   1                   A schedule, a price or a cut is broken; no schedule is allowed (solve); a gas
                       day has no calendar; an office's receipts don't fit its books; a posting was
-                      kept before; an archive is unsound, or isn't of version 1 when it is migrated.
+                      kept before; an archive is unsound, or isn't of version 1 when it is migrated;
+                      a row was faulty (day --book); a book's file isn't what was told.
   2                   A fault of the command line, the text, reading, writing, the archive, the
-                      memory or the threads.
+                      book's file, the memory or the threads.
 
 Rows that are read:
 A text is read by the rules of csv (RFC 4180): commas, double quotes, rows ended by LF, CRLF or CR.
@@ -133,14 +136,15 @@ has a day row, and is a slot, counted from 1.
 Faults:
 fault,ROW,CAUSE,FIELD tells the first faulty row, with status 2 (of a text nothing else is printed).
 ROW is counted from 1 without empty lines, and one past the last where something is missing; it is 0
-where no row is blamed.
-  FieldCount          The row has not eight fields. Add or remove commas; quote a field that has
-                      commas of its own.
+where no row is blamed. With day --book each faulty row is told, and the run goes on.
+  FieldCount          The row has not eight fields, or it stands behind the opening of a book's file
+                      and has a quotation mark. Add or remove commas; quote a field that has commas
+                      of its own.
   UnknownKind         The first field is no kind of row. Kinds are in lower case.
   Order               The row may not stand there: the command doesn't take its kind, its stage is
                       below that of a row before it, a second head, sched, price or inside rows that
-                      no publish or declare row takes, or a call without a session. Move or remove
-                      it.
+                      no publish or declare row takes, a call without a session, or one more opening
+                      of a book's file. Move or remove it.
   BadField            Field FIELD, counted from 1, isn't of its form or range, is out of sequence,
                       or should be empty. Correct it.
   Missing             There is no question or day row, or none in a block of an office. Add it.
@@ -165,16 +169,20 @@ where no row is blamed.
   IsPool              A pool has no capacity. Remove the row.
   FloorAboveCeiling   The line's floor is above its ceiling. Lower the one or raise the other.
   BadClass            The line's class is 0 or above 8. Correct it.
-  ReadFailed          Standard input can't be read. Try again.
+  ReadFailed          Standard input can't be read, or with day --book it ended within a line. Try
+                      again; end each line by a line feed.
   TooLong             The text has more than 268,435,456 bytes or 1,100,000 rows, or took 4,194,304
-                      reads. Make it smaller, and hand it over as a file and not in small pieces.
+                      reads. Make it smaller, and hand it over as a file and not in small pieces. At
+                      a row of day --book the book's file would have more bytes or rows than that:
+                      it takes no more calls.
   OutOfMemory         Memory ran out. Whole rows before this one hold. Give more memory, or a
                       smaller text.
   NoThread            No thread could be started (office). Raise the limit of processes, or use
                       fewer sessions before one desk row.
-  Store               The archive can't be opened, read or written, another process writes to it, or
-                      the file is none. Check its name, its rights and the room on the disk, and try
-                      again.
+  Store               The archive or the book's file can't be opened, read or written, another
+                      process writes to the archive, or the file is none. Check its name, its rights
+                      and the room on the disk, and try again.
+  Busy                Another process has the book's file. End that one, or wait until it has ended.
   OldVersion          The archive is of version 1. Run gasday migrate on it, on a copy first.
 A fault of the command line is told on standard error, with status 2.
 
@@ -282,6 +290,7 @@ A moment by the clock of the zone:
 pub(crate) const SHORT_OF_DAY: &str = "Examples:
   gasday day < examples/gas-day/two-cycles.csv
   gasday day --archive postings.db < examples/gas-day/two-cycles.csv
+  gasday day --book 0308.book < examples/gas-day/two-cycles.csv
 
 'gasday day --help' tells more.";
 
@@ -350,9 +359,38 @@ which is made where it isn't there. For a cycle that has a posting there already
   Kept                The archive has a posting of this book and cycle, which is left as it is. Name
                       each gas day's book by its date. Status 1.
 
+With --book FILE, and without --archive, it serves rows of calls as they come, each told and flushed at
+once, on the book that FILE keeps, a SQLite database, which is made where it isn't there. Where FILE
+keeps no book the head of the input opens it: rows segment, point, pool, contract, day and carry, which
+end at the first line of a call or of a sched, price or inside row, or with the input. Where FILE keeps
+one, its calls are made again first, and rows of an opening are faulty. The first row that it prints is
+  opened,BOOK,CALLS,EVENTS
+      FILE keeps so many calls, accepted or refused, and the book's history has so many events.
+and then it prints the rows above for each call. What is told was kept before, so nothing told is lost,
+however the run ends: after a break open FILE again, and go on behind its CALLS. A settled cycle is kept
+as the rows that publish or declare what it came to.
+
+A row is one line, and takes no quotation marks behind the opening. An empty line is told back as an
+empty line, so that a front end sees where an answer ends. A faulty row is told as
+  fault,ROW,CAUSE,FIELD
+      CAUSE and FIELD are those of any text, and ROW is counted from 1 over the whole input of the
+      run. The row changes nothing and isn't kept, and it drops the sched, price and inside rows that
+      wait before it; the run goes on. A call that leaves such rows over isn't made: it is told as
+      Order, at the first of them. A fault of the opening ends the run, with status 2.
+What stands behind the last line feed is no row: it is told as ReadFailed, at row 0. FILE keeps no more
+rows and bytes than one text may have: a row beyond that is told as TooLong. Where another process has
+FILE it prints fault,0,Busy, and where FILE can't be opened, read or written, or is no book's,
+fault,0,Store. Where FILE isn't what was told it prints
+  differs,PIECE,CALL
+      At this piece, and at this call over the whole file, both counted from 1: the call gives other
+      rows than FILE says were told. Call 0 is the opening. Take FILE from a copy. Status 1.
+The status is 0 where the input ended and no row was faulty; 1 where a row was faulty, the opening has
+no calendar or FILE differs; and 2 where the run failed.
+
 Examples:
   gasday day < examples/gas-day/two-cycles.csv
-  gasday day --archive postings.db < examples/gas-day/two-cycles.csv";
+  gasday day --archive postings.db < examples/gas-day/two-cycles.csv
+  gasday day --book 0308.book < examples/gas-day/two-cycles.csv";
 
 /// What stands under the help of `office`.
 pub(crate) const SHORT_OF_OFFICE: &str = "Example:
@@ -387,23 +425,56 @@ Example:
   gasday office < examples/office/two-books.csv";
 
 /// What stands under the help of `audit`.
-pub(crate) const SHORT_OF_AUDIT: &str = "Example:
+pub(crate) const SHORT_OF_AUDIT: &str = "Examples:
   gasday audit postings.db
+  gasday audit 0308.book
 
 'gasday audit --help' tells more.";
 
 /// What stands under the long help of `audit`.
 pub(crate) const LONG_OF_AUDIT: &str =
-    "It checks each posting in FILE against its own question. Where all are sound it prints their number
+    "It checks each posting of an archive against its own question. Where all are sound it prints their number
   audited,COUNT
 and else the first that fails, by book and cycle:
   unsound,BOOK,CYCLE,NAME
 NAME is Damaged (no posting, or another one's), or what its check finds broken, as
 'gasday check --help' tells. Take the file from a copy, or look at the row with sqlite3.
+
+Of the file of a book that day --book serves it makes all calls again, and compares each reply with
+what was told. Where they are the same it prints, with status 0,
+  replayed,BOOK,CALLS,EVENTS,PUBLISHED
+for so many calls, accepted or refused, and a history of so many events, of which so many published a
+schedule; and else, with status 1, the first call that gives other rows than the file says were told,
+by its piece and its number over the whole file, where 0 is the opening:
+  differs,PIECE,CALL
 It reads nothing from standard input.
 
+Examples:
+  gasday audit postings.db
+  gasday audit 0308.book";
+
+/// What stands under the help of `text`.
+pub(crate) const SHORT_OF_TEXT: &str = "Example:
+  gasday text 0308.book
+
+'gasday text --help' tells more.";
+
+/// What stands under the long help of `text`.
+pub(crate) const LONG_OF_TEXT: &str =
+    "It prints the text of the gas day that FILE keeps, the file of a book that day --book serves: the
+opening and all calls, accepted or refused, as they came; but a settled cycle as the rows that publish
+or declare what it came to. It makes no call: audit tells whether FILE is what was told.
+It reads nothing from standard input.
+
+What was told is told once more by
+  gasday text FILE | gasday day
+its postings are put into an archive by
+  gasday text FILE | gasday day --archive postings.db
+and a file of a text is made by
+  gasday day --book NEW < day.csv
+
 Example:
-  gasday audit postings.db";
+  gasday text 0308.book";
 
 /// What stands under the help of `migrate`.
 pub(crate) const SHORT_OF_MIGRATE: &str = "Example:

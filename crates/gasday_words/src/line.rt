@@ -152,7 +152,20 @@ fn archive<'a>(alloc: Global) -> Arg<'a>
         .help(HELP_OF_ARCHIVE)
 }
 
-/// `day [--archive FILE] [TEXT]..`.
+const HELP_OF_BOOK: &str = "serve rows as they come, on the book that FILE keeps";
+
+/// `--book FILE`, which may be left out.
+fn book<'a>(alloc: Global) -> Arg<'a>
+    ensures rule { rule_of result ≡ spec.book }
+    ensures local { result.global ≡ false }
+{
+    Arg::new(alloc, "book")
+        .long("book")
+        .value_name("FILE")
+        .help(HELP_OF_BOOK)
+}
+
+/// `day [--archive FILE] [--book FILE] [TEXT]..`.
 fn day<'a>(alloc: Global) -> Result<CommandLine<'a>, AllocError>
     ensures app { IfOk result (λ c. app_of c ≡ spec.day) }
     ensures local { IfOk result (λ c. (out-Command c).has_globals ≡ false) }
@@ -165,6 +178,7 @@ fn day<'a>(alloc: Global) -> Result<CommandLine<'a>, AllocError>
         help::LONG_OF_DAY,
     )
     .arg(archive(alloc))?
+    .arg(book(alloc))?
     .arg(texts(alloc))
 }
 
@@ -186,20 +200,21 @@ fn office<'a>(alloc: Global) -> Result<CommandLine<'a>, AllocError>
     .arg(texts(alloc))
 }
 
-const HELP_OF_FILE: &str = "the archive, a SQLite database";
-
-/// FILE, one word that has to be there.
-fn file<'a>(alloc: Global) -> Arg<'a>
+/// FILE, one word that has to be there, with its help.
+fn file<'a>(alloc: Global, about: &'a str) -> Arg<'a>
     ensures rule { rule_of result ≡ spec.file }
     ensures local { result.global ≡ false }
 {
     Arg::new(alloc, "file")
         .value_name("FILE")
         .required(true)
-        .help(HELP_OF_FILE)
+        .help(about)
 }
 
-const ABOUT_AUDIT: &str = "Checks each posting of an archive against its own question";
+const ABOUT_AUDIT: &str =
+    "Checks each posting of an archive against its own question, or makes all calls of a book's file again";
+
+const FILE_OF_AUDIT: &str = "the archive or the book's file, a SQLite database";
 
 /// `audit FILE`.
 fn audit<'a>(alloc: Global) -> Result<CommandLine<'a>, AllocError>
@@ -213,10 +228,31 @@ fn audit<'a>(alloc: Global) -> Result<CommandLine<'a>, AllocError>
         help::SHORT_OF_AUDIT,
         help::LONG_OF_AUDIT,
     )
-    .arg(file(alloc))
+    .arg(file(alloc, FILE_OF_AUDIT))
+}
+
+const ABOUT_TEXT: &str = "Prints the text of a gas day that a book's file keeps";
+
+const FILE_OF_TEXT: &str = "the book's file, a SQLite database";
+
+/// `text FILE`.
+fn book_text<'a>(alloc: Global) -> Result<CommandLine<'a>, AllocError>
+    ensures app { IfOk result (λ c. app_of c ≡ spec.book_text) }
+    ensures local { IfOk result (λ c. (out-Command c).has_globals ≡ false) }
+{
+    command(
+        alloc,
+        "text",
+        ABOUT_TEXT,
+        help::SHORT_OF_TEXT,
+        help::LONG_OF_TEXT,
+    )
+    .arg(file(alloc, FILE_OF_TEXT))
 }
 
 const ABOUT_MIGRATE: &str = "Brings an archive of version 1 to version 2";
+
+const FILE_OF_MIGRATE: &str = "the archive, a SQLite database";
 
 /// `migrate FILE`.
 fn migrate<'a>(alloc: Global) -> Result<CommandLine<'a>, AllocError>
@@ -230,7 +266,7 @@ fn migrate<'a>(alloc: Global) -> Result<CommandLine<'a>, AllocError>
         help::SHORT_OF_MIGRATE,
         help::LONG_OF_MIGRATE,
     )
-    .arg(file(alloc))
+    .arg(file(alloc, FILE_OF_MIGRATE))
 }
 
 /// The program's name, before it has commands.
@@ -269,5 +305,8 @@ pub(crate) fn gasday<'a>(alloc: Global) -> Result<CommandLine<'a>, AllocError>
     let Ok(with_audit) = with_command(texts, audit(alloc)) else {
         return Err(AllocError);
     };
-    with_command(with_audit, migrate(alloc))
+    let Ok(with_text) = with_command(with_audit, book_text(alloc)) else {
+        return Err(AllocError);
+    };
+    with_command(with_text, migrate(alloc))
 }

@@ -31,11 +31,15 @@ pub enum Command {
 /// What the words ask for.
 #[derive(Clone, Copy, Debug, PartialEq, Eq)]
 pub enum Order<'a> {
-    /// A command that needs no archive.
+    /// A command that needs no archive and no book's file.
     Text(Command),
     /// `day --archive FILE`: as `day`, and what is published is kept in the archive.
     ArchivedDay(&'a str),
-    /// `audit FILE`: checks each posting of an archive.
+    /// `day --book FILE`: serves calls as they come, on the book that the file keeps.
+    LiveDay(&'a str),
+    /// `text FILE`: prints the text of a gas day that a book's file keeps.
+    BookText(&'a str),
+    /// `audit FILE`: checks each posting of an archive, or makes all calls of a book's file again.
     Audit(&'a str),
     /// `migrate FILE`: brings an archive of version 1 to version 2.
     Migrate(&'a str),
@@ -72,12 +76,22 @@ fn check_of<'a>(word: Option<&str>) -> Option<Order<'a>>
     }
 }
 
-/// The order that checks this archive.
+/// The order that checks this archive or this book's file.
 fn audit_of<'a>(file: Option<&'a str>) -> Option<Order<'a>>
     ensures { option_map seen result ≡ option_map ordered.Audit (option_map (λ f. f.now) file.entry) }
 {
     match file {
         Some(file) => Some(Order::Audit(file)),
+        None => None,
+    }
+}
+
+/// The order that prints the text of this book's file.
+fn book_text_of<'a>(file: Option<&'a str>) -> Option<Order<'a>>
+    ensures { option_map seen result ≡ option_map ordered.BookText (option_map (λ f. f.now) file.entry) }
+{
+    match file {
+        Some(file) => Some(Order::BookText(file)),
         None => None,
     }
 }
@@ -92,13 +106,16 @@ fn migrate_of<'a>(file: Option<&'a str>) -> Option<Order<'a>>
     }
 }
 
-/// A gas day, kept in the archive where there is one.
-fn day_kept_in<'a>(archive: Option<&'a str>) -> Order<'a>
-    ensures { seen result ≡ spec.day_kept_in (option_map (λ f. f.now) archive.entry) }
+/// A gas day, with the archive or on the book's file where one is named. Both together name no order.
+fn day_kept_in<'a>(archive: Option<&'a str>, book: Option<&'a str>) -> Option<Order<'a>>
+    ensures { option_map seen result
+        ≡ spec.day_kept_in (option_map (λ f. f.now) archive.entry) (option_map (λ f. f.now) book.entry) }
 {
-    match archive {
-        Some(file) => Order::ArchivedDay(file),
-        None => Order::Text(Command::Day),
+    match (archive, book) {
+        (None, None) => Some(Order::Text(Command::Day)),
+        (Some(archive), None) => Some(Order::ArchivedDay(archive)),
+        (None, Some(book)) => Some(Order::LiveDay(book)),
+        (Some(_), Some(_)) => None,
     }
 }
 
@@ -117,9 +134,10 @@ fn order_from<'a>(name: &str, given: &ArgMatches<'a>) -> Option<Order<'a>>
         "check" => check_of(word_given(given, "what")),
         "solve" => Some(Order::Text(Command::Solve)),
         "calendar" => Some(Order::Text(Command::Calendar)),
-        "day" => Some(day_kept_in(word_given(given, "archive"))),
+        "day" => day_kept_in(word_given(given, "archive"), word_given(given, "book")),
         "office" => Some(Order::Text(Command::Office)),
         "audit" => audit_of(word_given(given, "file")),
+        "text" => book_text_of(word_given(given, "file")),
         "migrate" => migrate_of(word_given(given, "file")),
         _ => None,
     }
@@ -166,10 +184,8 @@ pub(crate) fn request_in<'a>(
     request_from(alloc, name, given)
 }
 
-/// The word after `check`, or nothing where there is none.
-pub(crate) fn word_after_check<'a>(matches: &ArgMatches<'a>) -> &'a str {
-    match matches.subcommand() {
-        Some((_, given)) => given.get_str("what").unwrap_or(""),
-        None => "",
-    }
+/// The word after `check`, if that is the command.
+pub(crate) fn word_after_check<'a>(matches: &ArgMatches<'a>) -> Option<&'a str> {
+    let (_, given) = matches.subcommand()?;
+    given.get_str("what")
 }

@@ -1,11 +1,9 @@
-use Rattle.std.proofs.Common.{◌≡◌, ◌∙◌, ap}
+use Rattle.std.proofs.Common.{◌≡◌, ◌∙◌}
 use Rattle.std.proofs.lemmas.Result.{IfOk-weaker}
-use Rattle.clap.specs.Words.{App, app_of, with_subcommand}
+use Rattle.clap.specs.Words.{app_of}
 use Rattle.gasday_words.specs.Meaning as spec
+use Rattle.gasday_words.proofs.Commands.{and}
 use Rattle.gasday_words.proofs.line.with_texts.Goals as goal
-
-and : (command : App) {a b : App} → a ≡ b → with_subcommand a command.top ≡ with_subcommand b command.top
-and command e = ap (λ (line : App). with_subcommand line command.top) e
 
 pub returns : goal.returns
 returns c =
