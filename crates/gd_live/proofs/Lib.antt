@@ -1,3 +1,4 @@
+mod Accepting
 mod Joining
 mod Made
 mod Standing

@@ -52,7 +52,7 @@ as_it_came_on r s t after line e place old kept new same is_kept is room made se
     (subst (λ (x : Stand). OnOk r (IsSettle e → after.history ≡ x.history)) same settle)
 
 pub settled : (s after : Stand) (line : List ℕ) (moment : ℕ) (place : Place) (g : Group) (last : List ℕ) (e : EventRow) (old new : Yield)
-    → IsRow s line (row.Event (event.Settle moment)) place → HasRoom s.room s.group line → IsConclusion s.history moment g last e
+    → IsRow s line (row.Event (event.Settle moment)) place → HasRoom s.room s.group line → IsConclusion s.day s.history moment g last e
     → (more : Yield) × IsMade s g last e after more × Adds old new more → after.history ≢ s.history → (more : Yield) × RowDoes s line after more × Adds old new more
 settled s after line moment place g last e old new is room conclusion made grew =
     (made.0, inr (inr (row.Event (event.Settle moment), place, event.Settle moment, is, room, refl, inr (moment, refl, (g, last, e, conclusion, made.1, grew)))), made.2)

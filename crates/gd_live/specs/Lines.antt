@@ -1,5 +1,7 @@
 -- What a line of a live run does to its book, what is kept of it, and what is told.
-use Rattle.std.specs.Prelude.{◌≡◌, ◌≢◌, ◌⊎◌, ℕ, ◌+◌, ◌-◌, ◌≤◌, ◌<◌, true, Some, None, List, [], ◌∷◌, ◌++◌, length, Ok, Err, ⊤}
+use Rattle.std.specs.Prelude.{◌≡◌, ◌≢◌, ◌⊎◌, ℕ, ◌+◌, ◌-◌, ◌*◌, ◌≤◌, ◌<◌, true, Some, None, List, [], ◌∷◌, ◌++◌, length, Ok, Err, ⊤}
+use Rattle.gd_rules.specs.Limits.{classes}
+use Rattle.gd_question.specs.Posing.{Posed}
 use Rattle.gd_text_part.specs.Lines.{bare, line_of}
 use Rattle.gd_text_part.specs.declared.fault.RowFault.{RowFault}
 use Rattle.gd_text_part.specs.declared.fault.TextFault.{TextFault}
@@ -11,7 +13,9 @@ use Rattle.gd_text_part.specs.declared.row.Row.TheVariants as row
 use Rattle.gd_text.specs.Building.{row_fault}
 use Rattle.gd_day.specs.Calls.{event_of}
 use Rattle.gd_day.specs.Groups.{Passes, checked_group}
+use Rattle.gd_machine.specs.Day.{Day}
 use Rattle.gd_machine.specs.History.{History, is_frozen, round_of}
+use Rattle.gd_machine.specs.Asking.{question}
 use Rattle.gd_replies.specs.Lines.{lines_of}
 use Rattle.gd_replies.specs.declared.reply.Reply.{Reply}
 use Rattle.gd_replies.specs.declared.reply.Reply.TheVariants as reply
@@ -61,26 +65,50 @@ Concludes moment round (event.Publish at n) = (at ≡ moment) × (n ≡ round)
 Concludes moment round (event.Declare at n) = (at ≡ moment) × (n ≡ round)
 Concludes moment round e = ⊥
 
--- What the frozen cycle comes to, settled at this moment: the rows of a group, and the line of a call behind it, which
--- publishes or declares the current round.
-pub record IsConclusion (h : History) (moment : ℕ) (g : Group) (line : List ℕ) (e : EventRow) : Type 0 where
+-- how many rows such a call needs before it at most: a quantity of each line and a price of each element at each class, or
+-- the name of each place, point and pool
+abbrev pub most_rows : Posed → EventRow → ℕ
+most_rows q (event.Publish at n) = length q.asked.lines + classes * length q.asked.elements
+most_rows q e = length q.pipeline.places + (length q.pipeline.points + length q.pipeline.pools)
+
+-- What the frozen cycle comes to, settled at this moment: the rows of a group, no more than are needed, and the line of a
+-- call behind it, which publishes or declares the current round.
+pub record IsConclusion (day : Day) (h : History) (moment : ℕ) (g : Group) (line : List ℕ) (e : EventRow) : Type 0 where
   pub frozen : is_frozen h ≡ true
   pub group : IsGroup (length g.rows) g
+  pub few : length g.rows ≤ most_rows (question day h) e
   pub place : Place
   pub reads : line_of g.place (length g.rows + 1) line ≡ Ok (row.Event e, place)
   pub concludes : Concludes moment (round_of h) e
 
+-- The book may accept the call behind these rows: their prices and their set can be made, and the call may give more history.
+pub record IsAcceptable (day : Day) (h : History) (group : List Row) (e : EventRow) : Type 0 where
+  pub passes : Passes day.holdings.pipeline group
+  pub told : List Reply
+  pub after : History
+  pub gives : RowGives day h group e told after
+  pub grows : after ≢ h
+
+-- What the cycle comes to, settled at this moment, is a call that the book may accept, and no text may still have so much.
+pub record IsTooLong (s : Stand) (moment : ℕ) : Type 0 where
+  pub group : Group
+  pub last : List ℕ
+  pub called : EventRow
+  pub conclusion : IsConclusion s.day s.history moment group last called
+  pub acceptable : IsAcceptable s.day s.history group.rows called
+  pub full : ¬ (HasRoom s.room group last)
+
 -- Why a bare line is faulty: it is no row, or not here; no more rows may be kept; it is a call whose group has prices or a
--- set that can't be made; or it settles a cycle, and what that comes to may not be kept any more.
+-- set that can't be made; or it settles a cycle, and what that comes to, which may be accepted, may not be kept any more.
 abbrev pub IsFaulty : Stand → List ℕ → Reply → Type 0
 IsFaulty s line told =
     ((fault : RowFault) × (line_of s.group.place s.number line ≡ Err fault) × (told ≡ reply.Fault (row_fault fault)))
     ⊎ ((r : Row) × (place : Place) × IsRow s line r place × ¬ (HasRoom s.room s.group line) × (told ≡ reply.Full s.number))
-    ⊎ ((r : Row) × (place : Place) × (e : EventRow) × (fault : TextFault) × IsRow s line r place × (event_of r ≡ Some e)
-    × (checked_group s.day.holdings.pipeline (s.number - length s.group.rows) s.group.rows ≡ Err fault) × (told ≡ reply.Fault fault))
-    ⊎ ((moment : ℕ) × (place : Place) × (g : Group) × (last : List ℕ) × (e : EventRow)
-    × IsRow s line (row.Event (event.Settle moment)) place × IsConclusion s.history moment g last e × ¬ (HasRoom s.room g last)
-    × (told ≡ reply.Full s.number))
+    ⊎ ((r : Row) × (place : Place) × (e : EventRow) × (fault : TextFault) × IsRow s line r place × HasRoom s.room s.group line
+    × (event_of r ≡ Some e) × (checked_group s.day.holdings.pipeline (s.number - length s.group.rows) s.group.rows ≡ Err fault)
+    × (told ≡ reply.Fault fault))
+    ⊎ ((moment : ℕ) × (place : Place) × IsRow s line (row.Event (event.Settle moment)) place × HasRoom s.room s.group line
+    × IsTooLong s moment × (told ≡ reply.Full s.number))
 
 -- so much may still be kept behind a line with the rows of its group
 pub record IsLess (g : Group) (line : List ℕ) (room after : Room) : Type 0 where
@@ -108,7 +136,7 @@ abbrev pub Makes : Stand → List ℕ → EventRow → Stand → Yield → Type 
 Makes s line e after yield =
     (IsMade s s.group line e after yield × (IsSettle e → after.history ≡ s.history))
     ⊎ ((moment : ℕ) × (e ≡ event.Settle moment) × ((g : Group) × (last : List ℕ) × (made : EventRow)
-    × IsConclusion s.history moment g last made × IsMade s g last made after yield × (after.history ≢ s.history)))
+    × IsConclusion s.day s.history moment g last made × IsMade s g last made after yield × (after.history ≢ s.history)))
 
 -- The line is faulty as a row: that is told, and the rows that wait are dropped.
 abbrev pub Refuses : Stand → List ℕ → Stand → Yield → Type 0

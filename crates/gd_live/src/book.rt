@@ -1,16 +1,19 @@
 //! A book with the board that its postings go to.
 
-ghost use Rattle.std.specs.Prelude.{◌≡◌, true, false, IfOk, length};
+ghost use Rattle.std.specs.Prelude.{◌≡◌, ℕ, true, false, Ok, IfOk, length};
 ghost use Rattle.std.specs.Option.{MatchOption};
-ghost use Rattle.gd_machine.specs.History.{is_frozen};
+ghost use Rattle.gd_machine.specs.History.{is_frozen, round_of};
 ghost use Rattle.gd_machine.specs.Asking.{question};
 ghost use Rattle.gd_machine.specs.Headline.{Holds};
 ghost use Rattle.gd_day.specs.Groups.{Passes};
 ghost use Rattle.gd_course.specs.Course.{RowGives};
+ghost use Rattle.gd_live.specs.Lines.{Concludes, IsAcceptable};
 
+use crate::acceptance::{names_cut, offers_best};
 use gd_board::{Board, BoardNote};
-use gd_book::{Book, Event, Reply as BookReply};
+use gd_book::{Book, Event, MAX_EVENTS, Reply as BookReply};
 use gd_course::call;
+use gd_day::check_call;
 use gd_question::Question;
 use gd_replies::Reply;
 use gd_system::System;
@@ -87,6 +90,31 @@ impl PostedBook {
         ensures { result ≡ length self.now.history }
     {
         self.book.history().len()
+    }
+
+    /// Whether a call that publishes or declares the frozen question would be accepted, made now with these rows before it.
+    pub(crate) fn accepts(
+        &self,
+        alloc: Global,
+        group: &[Row],
+        event: EventRow,
+    ) -> Result<bool, AllocError>
+        requires { (moment : ℕ) × Concludes moment (round_of self.now.history) event }
+        ensures { result ≡ Ok true → IsAcceptable self.now.day self.now.history group.now event }
+    {
+        let Some(question) = self.frozen() else {
+            return Ok(false);
+        };
+        if self.event_count() >= MAX_EVENTS
+            || check_call(alloc, question.system(), 1, group).is_err()
+        {
+            return Ok(false);
+        }
+        match event {
+            EventRow::Publish { .. } => offers_best(alloc, question, group),
+            EventRow::Declare { .. } => names_cut(alloc, question, group),
+            _ => Ok(false),
+        }
     }
 
     /// Makes the call of a row with the rows of its group before it, and tells it. After the error, which is want of memory,

@@ -1,13 +1,13 @@
 //! What a settled cycle comes to, as rows that publish or declare it.
 
-ghost use Rattle.std.specs.Prelude.{◌≡◌, ◌+◌, true, Ok, IsTrue, IfOk, OnOk, length};
+ghost use Rattle.std.specs.Prelude.{◌≡◌, ◌≤◌, ◌+◌, true, Ok, IsTrue, IfOk, OnOk, length};
 ghost use Rattle.gd_machine.specs.History.{is_frozen, round_of};
 ghost use Rattle.gd_machine.specs.Asking.{question as question_of};
 ghost use Rattle.gd_text_part.specs.Lines.{line_of};
 ghost use Rattle.gd_text_part.specs.declared.order.Place.{Place};
 ghost use Rattle.gd_text_part.specs.declared.row.Row.TheVariants as row;
 ghost use Rattle.gd_live.specs.Stands as spec;
-ghost use Rattle.gd_live.specs.Lines.{Concludes, IsConclusion};
+ghost use Rattle.gd_live.specs.Lines.{Concludes, IsConclusion, most_rows as spec_rows};
 
 use crate::book::PostedBook;
 use crate::group::Group;
@@ -16,7 +16,7 @@ use gd_question::Question;
 use gd_replies::{Reply, cut_replies, solved_replies};
 use gd_solver::{Answer, solve};
 use gd_text_part::EventRow;
-use gd_units::{Moment, Round};
+use gd_units::{Class, Moment, Round};
 use std::alloc::{AllocError, Global};
 
 /// The rows of a group, and the line of a call behind it.
@@ -59,27 +59,6 @@ fn push_line(alloc: Global, group: &mut Group, line: &[u8]) -> Result<(), AllocE
     group.wait(line, row, place)
 }
 
-/// Whether a row of an answer stands in a group too.
-fn is_of_group(reply: &Reply) -> bool {
-    matches!(
-        reply,
-        Reply::Sched(..) | Reply::Price { .. } | Reply::Inside(..)
-    )
-}
-
-/// A row of an answer is read as one of the group.
-fn push_reply(alloc: Global, group: &mut Group, reply: &Reply) -> Result<(), AllocError>
-    requires { spec.IsGroup (length group.old.rows) group.old }
-    ensures { OnOk result (spec.IsGroup (length group.new.rows) group.new) }
-{
-    let printed = reply.to_string(alloc)?;
-    let line = printed.as_bytes();
-    if line.is_empty() {
-        return Err(AllocError);
-    }
-    push_line(alloc, group, &line[..line.len() - 1])
-}
-
 /// The group of those rows that stand in one.
 fn group_of(alloc: Global, answer: &[Reply]) -> Result<Group, AllocError>
     ensures { IfOk result (λ g. spec.IsGroup (length g.rows) g) }
@@ -111,6 +90,19 @@ fn concludes(event: &EventRow, moment: Moment, round: Round) -> bool
     }
 }
 
+/// How many rows such a call needs before it at most.
+fn most_rows(question: &Question, event: &EventRow) -> usize
+    ensures { result ≡ spec_rows question.now event.now }
+{
+    question.known();
+    let system = question.system();
+    system.known();
+    match *event {
+        EventRow::Publish { .. } => question.line_count() + Class::COUNT * question.element_count(),
+        _ => system.place_count() + (system.point_count() + system.pool_count()),
+    }
+}
+
 /// The line that publishes or declares the question of this round.
 fn last_line(
     alloc: Global,
@@ -123,15 +115,17 @@ fn last_line(
     Vec::from_slice(alloc, line.as_bytes())
 }
 
-/// The call that a line is behind a group, if that publishes or declares the question of this round at this moment.
+/// The call that a line is behind a group, if that publishes or declares the question at this moment, and the group has no
+/// more rows than are needed.
 fn event_in(
     alloc: Global,
     group: &Group,
     line: &[u8],
     moment: Moment,
-    round: Round,
+    question: &Question,
 ) -> Result<EventRow, AllocError>
-    ensures { IfOk result (λ e. Concludes moment round e × ((place : Place)
+    ensures few { IfOk result (λ e. length group.now.rows ≤ spec_rows question.now e) }
+    ensures is { IfOk result (λ e. Concludes moment question.now.round e × ((place : Place)
         × (line_of group.now.place (length group.now.rows + 1) line.now ≡ Ok (row.Event e, place)))) }
 {
     let number = group.rows().len() as u64 + 1;
@@ -141,7 +135,9 @@ fn event_in(
     let Some(event) = event_of(&row) else {
         return Err(AllocError);
     };
-    if !concludes(&event, moment, round) {
+    if !concludes(&event, moment, question.round())
+        || group.rows().len() > most_rows(question, &event)
+    {
         return Err(AllocError);
     }
     Ok(event)
@@ -157,14 +153,13 @@ pub(crate) fn conclusion_of(
 ) -> Result<Conclusion, AllocError>
     requires frozen { is_frozen book.now.history ≡ true }
     requires question { question.now ≡ question_of book.now.day book.now.history }
-    ensures { IfOk result (λ c. IsConclusion book.now.history moment c.group c.line.items c.event) }
+    ensures { IfOk result (λ c. IsConclusion book.now.day book.now.history moment c.group c.line.items c.event) }
 {
-    let round = question.round();
     let (answer, is_best) = answer_to(alloc, question)?;
     let group = group_of(alloc, answer.as_slice());
     drop(answer);
     let group = group?;
-    let line = last_line(alloc, is_best, moment, round)?;
-    let event = event_in(alloc, &group, line.as_slice(), moment, round)?;
+    let line = last_line(alloc, is_best, moment, question.round())?;
+    let event = event_in(alloc, &group, line.as_slice(), moment, question)?;
     Ok(Conclusion { group, line, event })
 }

@@ -4,6 +4,7 @@
 //! 1970-01-01T00:00:00Z.
 #![tactic(auto)]
 
+mod acceptance;
 mod book;
 mod calls;
 mod conclusion;

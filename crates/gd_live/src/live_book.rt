@@ -145,7 +145,7 @@ impl LiveBook {
         room: Room,
         given: &mut Given,
     ) -> Result<bool, AllocError>
-        requires conclusion { (moment : ℕ) × spec.IsConclusion self.old.book.history moment
+        requires conclusion { (moment : ℕ) × spec.IsConclusion self.old.book.day self.old.book.history moment
             conclusion.now.group conclusion.now.line.items conclusion.now.event }
         requires room { spec.IsLess conclusion.now.group conclusion.now.line.items self.old.room room }
         ensures made { result ≡ Ok true → (more : Yield)
@@ -173,6 +173,37 @@ impl LiveBook {
         Ok(true)
     }
 
+    /// Settles the frozen cycle, where there is no room for what it comes to: that is told if the book would accept it.
+    fn settle_without_room(
+        &mut self,
+        rt: &(impl Threads + Sync),
+        alloc: Global,
+        line: &[u8],
+        moment: Moment,
+        room: Room,
+        conclusion: Conclusion,
+        given: &mut Given,
+    ) -> Result<(), AllocError>
+        requires passes { Passes self.old.book.day.holdings.pipeline self.old.group.rows }
+        requires room { spec.IsLess self.old.group line.now self.old.room room }
+        requires is { (place : APlace) × spec.IsRow (stand_of self.old) line.now (row.Event (event_row.Settle moment)) place }
+        requires has_room { spec.HasRoom self.old.room self.old.group line.now }
+        requires conclusion { spec.IsConclusion self.old.book.day self.old.book.history moment
+            conclusion.group conclusion.line.items conclusion.event }
+        requires full { ¬ (spec.HasRoom self.old.room conclusion.group conclusion.line.items) }
+        ensures { OnOk result ((more : Yield) × spec.RowDoes (stand_of self.old) line.now (stand_of self.new) more
+            × Adds (seen given.old) (seen given.new) more) }
+    {
+        let accepted = self
+            .book
+            .accepts(alloc, conclusion.group.rows(), conclusion.event);
+        drop(conclusion);
+        if accepted? {
+            return self.refuse(alloc, Reply::Full(self.number), given);
+        }
+        self.make(rt, alloc, line, EventRow::Settle { moment }, room, given)
+    }
+
     /// Settles the frozen cycle, of which it is known what it comes to: that is kept in the place of the row.
     fn settle_as(
         &mut self,
@@ -188,7 +219,7 @@ impl LiveBook {
         requires room { spec.IsLess self.old.group line.now self.old.room room }
         requires is { (place : APlace) × spec.IsRow (stand_of self.old) line.now (row.Event (event_row.Settle moment)) place }
         requires has_room { spec.HasRoom self.old.room self.old.group line.now }
-        requires conclusion { spec.IsConclusion self.old.book.history moment conclusion.group
+        requires conclusion { spec.IsConclusion self.old.book.day self.old.book.history moment conclusion.group
             conclusion.line.items conclusion.event }
         ensures { OnOk result ((more : Yield) × spec.RowDoes (stand_of self.old) line.now (stand_of self.new) more
             × Adds (seen given.old) (seen given.new) more) }
@@ -197,8 +228,7 @@ impl LiveBook {
             .room
             .without(&conclusion.group, conclusion.line.as_slice())
         else {
-            drop(conclusion);
-            return self.refuse(alloc, Reply::Full(self.number), given);
+            return self.settle_without_room(rt, alloc, line, moment, room, conclusion, given);
         };
         let concluded = self.conclude(rt, alloc, &conclusion, left, given);
         drop(conclusion);

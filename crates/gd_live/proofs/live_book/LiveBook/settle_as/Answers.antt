@@ -1,17 +1,9 @@
 use Rattle.gd_live.specs.Seen.{stand_of}
-use Rattle.std.proofs.Common.{inr, Ok, refl, ap}
+use Rattle.std.proofs.Common.{Ok, ap}
 use Rattle.gd_serving.specs.Seen.{seen}
-use Rattle.gd_replies.specs.declared.reply.Reply.TheVariants as reply
 use Rattle.gd_text_part.specs.declared.row.EventRow.TheVariants as event
-use Rattle.gd_live.proofs.Taking.{refused, as_it_came_on, settled, always}
+use Rattle.gd_live.proofs.Taking.{as_it_came_on, settled}
 use Rattle.gd_live.proofs.live_book.LiveBook.settle_as.Goals as goal
-
-pub returns-in_default : goal.returns-in_default
-returns-in_default g c =
-    let s = (stand_of c.args.self.now) in
-    refused c.refuse.result s (stand_of c.refuse.new.self) c.args.line.now (seen c.args.given.now) (seen c.refuse.new.given) (reply.Full s.number)
-    (inr (inr (inr (c.args.moment, c.requires.is.0, c.args.conclusion.group, c.args.conclusion.line.items, c.args.conclusion.event, c.requires.is.1, c.requires.conclusion, rw c.as_slice.ensures.value at c.in_default.ensures.none, refl))))
-    (always c.refuse.result c.refuse.ensures.stand) c.refuse.ensures.given
 
 pub returns-then-branch : goal.returns-then-branch
 returns-then-branch g c =

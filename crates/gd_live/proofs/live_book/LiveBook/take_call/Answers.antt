@@ -15,6 +15,6 @@ returns-in-Err g c =
       | inl none ↦ absurd (some none)
       | inr is ↦
           let found = checked_as c.system.result.now s.day.holdings.pipeline c.saturating_sub-first.result (s.number - length s.group.rows) c.rows-2.result.now s.group.rows fault c.system.ensures first c.rows-2.ensures is in
-          inr (inr (inl (row.Event c.args.event, c.requires.is.0, c.args.event, fault, c.requires.is.1, refl, found, refl)))
+          inr (inr (inl (row.Event c.args.event, c.requires.is.0, c.args.event, fault, c.requires.is.1, c.requires.has_room, refl, found, refl)))
     ])
     c.refuse_as.ensures.memory c.refuse_as.ensures.stand c.refuse_as.ensures.given
