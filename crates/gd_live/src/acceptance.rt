@@ -27,7 +27,10 @@ pub(crate) fn offers_best(
 {
     let schedule = offered_schedule(alloc, group)?;
     let prices = offered_prices(alloc, group, question.system())?;
-    match check(alloc, question, &schedule, &prices) {
+    let found = check(alloc, question, &schedule, &prices);
+    drop(schedule);
+    drop(prices);
+    match found {
         Ok(()) => Ok(true),
         Err(CertFault::OutOfMemory) => Err(AllocError),
         Err(_) => Ok(false),

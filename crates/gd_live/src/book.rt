@@ -1,6 +1,6 @@
 //! A book with the board that its postings go to.
 
-ghost use Rattle.std.specs.Prelude.{◌≡◌, ℕ, true, false, Ok, IfOk, length};
+ghost use Rattle.std.specs.Prelude.{◌≡◌, ℕ, true, false, Ok, IfOk, OnOk, length};
 ghost use Rattle.std.specs.Option.{MatchOption};
 ghost use Rattle.gd_machine.specs.History.{is_frozen, round_of};
 ghost use Rattle.gd_machine.specs.Asking.{question};
@@ -130,6 +130,8 @@ impl PostedBook {
         ensures gives { IfOk result
             (λ rows. RowGives self.old.day self.old.history group.now event rows.items self.new.history) }
         ensures day { self.new.day ≡ self.old.day }
+        // It changed nothing if there are as many events.
+        ensures stays { OnOk result (length self.new.history ≡ length self.old.history → self.new ≡ self.old) }
     {
         call(
             rt,

@@ -35,17 +35,19 @@ pub(crate) fn keep(
     alloc: Global,
     group: &Group,
     line: &[u8],
-    told: &[Reply],
+    told: Vec<Reply>,
     given: &mut Given,
 ) -> Result<(), AllocError>
     ensures { OnOk result (Adds (seen given.old) (seen given.new)
-        (kept_and_told (with_line group.now line.now) told.now)) }
+        (kept_and_told (with_line group.now line.now) told.items)) }
 {
+    let mut printed = Vec::new(alloc);
+    let made = print(alloc, &mut printed, told.as_slice());
+    drop(told);
+    made?;
     given.rows.extend_from_slice(group.bytes())?;
     given.rows.extend_from_slice(line)?;
     given.rows.push(b'\n')?;
-    let mut printed = Vec::new(alloc);
-    print(alloc, &mut printed, told)?;
     given.replies.extend_from_slice(printed.as_slice())?;
     given.told.extend_from_slice(printed.as_slice())?;
     Ok(())

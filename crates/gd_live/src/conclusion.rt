@@ -94,13 +94,13 @@ fn concludes(event: &EventRow, moment: Moment, round: Round) -> bool
 fn most_rows(question: &Question, event: &EventRow) -> usize
     ensures { result ≡ spec_rows question.now event.now }
 {
-    question.known();
+    if let EventRow::Publish { .. } = *event {
+        question.known();
+        return question.line_count() + Class::COUNT * question.element_count();
+    }
     let system = question.system();
     system.known();
-    match *event {
-        EventRow::Publish { .. } => question.line_count() + Class::COUNT * question.element_count(),
-        _ => system.place_count() + (system.point_count() + system.pool_count()),
-    }
+    system.place_count() + (system.point_count() + system.pool_count())
 }
 
 /// The line that publishes or declares the question of this round.

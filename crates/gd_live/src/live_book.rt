@@ -127,9 +127,7 @@ impl LiveBook {
             drop(told);
             return Err(AllocError);
         }
-        let kept = keep(alloc, &self.group, line, told.as_slice(), given);
-        drop(told);
-        kept?;
+        keep(alloc, &self.group, line, told, given)?;
         self.group.clear();
         self.room = room;
         Ok(())
@@ -165,9 +163,7 @@ impl LiveBook {
             return Ok(false);
         }
         let line = conclusion.line.as_slice();
-        let kept = keep(alloc, &conclusion.group, line, told.as_slice(), given);
-        drop(told);
-        kept?;
+        keep(alloc, &conclusion.group, line, told, given)?;
         self.group.clear();
         self.room = room;
         Ok(true)

@@ -38,9 +38,14 @@ impl Room {
         ensures some { IfSome result (λ left. HasRoom self group.now line.now × IsLess group.now line.now self left) }
         ensures none { IfNone result (¬ (HasRoom self group.now line.now)) }
     {
-        let rows = self.rows.checked_sub(group.rows().len())?.checked_sub(1)?;
-        let bytes = self.bytes.checked_sub(group.bytes().len())?;
-        let bytes = bytes.checked_sub(line.len())?.checked_sub(1)?;
-        Some(Room { rows, bytes })
+        let rows = group.rows().len();
+        let bytes = group.bytes().len() + line.len() + 1;
+        if rows >= self.rows || bytes > self.bytes {
+            return None;
+        }
+        Some(Room {
+            rows: self.rows - rows - 1,
+            bytes: self.bytes - bytes,
+        })
     }
 }
