@@ -1,0 +1,12 @@
+mod BegunBooks
+mod DayTexts
+mod Failing
+mod Faults
+mod Making
+mod Openings
+mod ReadPieces
+mod Running
+mod ServedLines
+mod Stands
+mod ToldRows
+mod Watching

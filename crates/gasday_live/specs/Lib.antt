@@ -1,0 +1,5 @@
+pub mod Books
+pub mod Audits
+pub mod Watching
+pub mod Runs
+pub mod Texts

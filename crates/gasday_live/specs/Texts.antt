@@ -1,0 +1,30 @@
+-- The text that the file of a book keeps: as it is printed, and as `day` reads it.
+use Rattle.std.specs.Prelude.{◌≡◌, ◌⊎◌, ℕ, List, Option}
+use Rattle.std.specs.Io.KnownBytes.{Appends}
+use Rattle.sqlite.specs.State.{State}
+use Rattle.gd_text_part.specs.Texts.{IsWithin}
+use Rattle.gd_machine.specs.Day.{Day}
+use Rattle.gd_machine.specs.Headline.{Holds}
+use Rattle.gd_machine.specs.History.{History}
+use Rattle.gd_replies.specs.Lines.{lines_of}
+use Rattle.gd_journal_store.specs.Pieces.{Piece, Keeps}
+use Rattle.gd_serving.specs.Runs.{rows_text, told_text}
+use Rattle.gasday_words.specs.declared.order.Command.TheVariants as command
+use Rattle.gasday_part.specs.Answers.{Told, AnswersBytes}
+use Rattle.gasday_live.specs.Books.{IsBook}
+
+-- The text that the file keeps was written as a whole, with status 0; or something failed, with status 2.
+abbrev pub Prints : State → Option (List ℕ) → Option (List ℕ) → ℕ → Type 0
+Prints was before behind status =
+    ((ps : List Piece) × Keeps ps was.now × Appends before behind (rows_text ps) × (status ≡ 0)) ⊎ (status ≡ 2)
+
+-- `day` may answer the text of these pieces with what was told of them, and status 0.
+pub record IsDay (ps : List Piece) : Type 0 where
+  pub answer : Told
+  pub answers : AnswersBytes command.Day (rows_text ps) answer
+  pub told : told_text ps ≡ lines_of answer.replies
+  pub ends : answer.status ≡ 0
+
+-- A book's pieces are the text of its day, where that is no longer than a text may be.
+abbrev pub BooksAreDays : Type 0
+BooksAreDays = (ps : List Piece) (day : Day) (h : History) → IsBook ps day h → Holds day h → IsWithin (rows_text ps) → IsDay ps
