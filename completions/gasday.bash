@@ -21,18 +21,18 @@ _gasday() {
         *[\<\>]*) _gasday_files; return ;;
     esac
     if [ "$COMP_CWORD" -eq 1 ]; then
-        _gasday_words 'check solve calendar day office audit migrate help --help --version'
+        _gasday_words 'check solve calendar day office audit text migrate help --help --version'
         return
     fi
     case ${COMP_WORDS[1]}:$COMP_CWORD in
-        help:2) _gasday_words 'check solve calendar day office audit migrate' ;;
+        help:2) _gasday_words 'check solve calendar day office audit text migrate' ;;
         help:*) ;;
         check:2) _gasday_words 'allowed best cut --help' ;;
         day:*)
-            [ "$before" = --archive ] || _gasday_words '--archive --help'
+            [[ $before = --archive || $before = --book ]] || _gasday_words '--archive --book --help'
             _gasday_files
             ;;
-        check:* | solve:* | calendar:* | office:* | audit:2 | migrate:2)
+        check:* | solve:* | calendar:* | office:* | audit:2 | text:2 | migrate:2)
             _gasday_words '--help'
             _gasday_files
             ;;

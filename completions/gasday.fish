@@ -12,16 +12,18 @@ complete -c gasday -n __fish_use_subcommand -a solve -d 'A best schedule with it
 complete -c gasday -n __fish_use_subcommand -a calendar -d 'The moments of a gas day'
 complete -c gasday -n __fish_use_subcommand -a day -d 'Make the calls of a whole gas day'
 complete -c gasday -n __fish_use_subcommand -a office -d 'Run an office of several gas days'
-complete -c gasday -n __fish_use_subcommand -a audit -d 'Check each posting of an archive'
+complete -c gasday -n __fish_use_subcommand -a audit -d 'Check an archive, or the file of a book'
+complete -c gasday -n __fish_use_subcommand -a text -d 'Print the text that the file of a book keeps'
 complete -c gasday -n __fish_use_subcommand -a migrate -d 'Bring an archive of version 1 to version 2'
 complete -c gasday -n __fish_use_subcommand -a help -d 'Print help of a command'
-complete -c gasday -n '__gasday_behind help' -a 'check solve calendar day office audit migrate'
+complete -c gasday -n '__gasday_behind help' -a 'check solve calendar day office audit text migrate'
 complete -c gasday -n '__gasday_behind check' -a allowed -d 'Within floors, ceilings and capacities, pools in balance'
 complete -c gasday -n '__gasday_behind check' -a best -d 'Prices show that no allowed schedule is better'
 complete -c gasday -n '__gasday_behind check' -a cut -d 'A set shows that no schedule is allowed'
 complete -c gasday -n '__fish_seen_subcommand_from day' -l archive -r -F -d 'Keep what is published in a file'
-complete -c gasday -n '__gasday_behind audit migrate' -F
+complete -c gasday -n '__fish_seen_subcommand_from day' -l book -r -F -d 'Serve calls on the book of a file'
+complete -c gasday -n '__gasday_behind audit text migrate' -F
 complete -c gasday -n '__fish_seen_subcommand_from check solve calendar day office' -F
 complete -c gasday -n __fish_use_subcommand -l help -d 'Print help'
 complete -c gasday -n __fish_use_subcommand -l version -d 'Print the version'
-complete -c gasday -n '__gasday_behind check solve calendar day office audit migrate' -l help -d 'Print help'
+complete -c gasday -n '__gasday_behind check solve calendar day office audit text migrate' -l help -d 'Print help'

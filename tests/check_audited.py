@@ -1,11 +1,11 @@
 #!/usr/bin/env python3
 """check_audited.py [--list [PATH | COMMAND..]]
 
-Finds the files of definitions that the statements of six paths reach (below: PATHS), and compares them with `docs/AUDIT.md`:
+Finds the files of definitions that the statements of seven paths reach (below: PATHS), and compares them with `docs/AUDIT.md`:
 each file that is reached stands there exactly once, with the paths that reach it, in the section of the first of them; each
 that stands there is reached; the counts of lines are right, and so are the types of the program and the modules of the kit
 that the definitions name. With `--list` it prints the files that all paths reach, with their lines; with the name of a path
-behind it (`Best`, `Headline`, `Checks`, `Days`, `Archives`, `Offices`) those of that path, and with commands (such as
+behind it (`Best`, `Headline`, `Checks`, `Days`, `Archives`, `Offices`, `Books`) those of that path, and with commands (such as
 `CheckBest CheckCut`) those that are reached by these commands of `gasday_part` alone.
 
 What counts as reached:
@@ -36,6 +36,7 @@ DOCUMENT = HOME / "docs" / "AUDIT.md"
 DEFINITIONS = HOME / "docs" / "DEFINITIONS.md"
 ANSWER, WRITE = ("gasday_part", "answer_of"), ("gasday_part", "write_answer")
 ANSWER_ORDER, ANSWER_OFFICE = ("gasday_archive", "answer_to"), ("gasday_office", "answer_office")
+BOOKS = tuple(("gasday_live", name) for name in ("serve_book", "audit_book", "print_book", "book_is_day"))
 # Each path by its letter: its name, its statements, and the commands that it is for.
 PATHS = {
     "a": ("Best", (("gd_rules", "prices_show_best"), ("gd_rules", "cut_forbids")), ()),
@@ -44,6 +45,7 @@ PATHS = {
     "d": ("Days", (ANSWER, WRITE), ("Day",)),
     "e": ("Archives", (ANSWER_ORDER, WRITE), ()),
     "f": ("Offices", (ANSWER_OFFICE, WRITE), ()),
+    "g": ("Books", BOOKS, ()),
 }
 
 USE = re.compile(r"^\s*(?:ghost )?use (Rattle\.[\w.]+?)(?:\.\{([^}]*)\}| as (\w+));?$")
@@ -268,7 +270,7 @@ class Document:
     """What `docs/AUDIT.md` says: files with their lines and paths, by section, types, modules of the kit, and totals."""
 
     SECTION = re.compile(r"^## \((\w)\) ")
-    FILE = re.compile(r"^- `(\w+)/(\w+\.antt)` \((\d+), ([a-f]+)\): \S")
+    FILE = re.compile(r"^- `(\w+)/(\w+\.antt)` \((\d+), ([a-g]+)\): \S")
     NAMES = re.compile(r"`(\w+)`: ((?:`[\w.]+`(?:, )?)+)")
     TOTAL = re.compile(r"\*\*(?:Stop here \((\w)\)|(All)): (\d+) files, ([\d,]+) lines")
 

@@ -23,7 +23,7 @@ class Completing(unittest.TestCase):
         return sorted(filter(None, done.stdout.split("\n")))
 
     def test_commands(self) -> None:
-        commands = ["audit", "calendar", "check", "day", "migrate", "office", "solve"]
+        commands = ["audit", "calendar", "check", "day", "migrate", "office", "solve", "text"]
         self.assertEqual(self.offers(""), sorted(["--help", "--version", "help", *commands]))
         self.assertEqual(self.offers("help", ""), commands)
         self.assertEqual(self.offers("c"), ["calendar", "check"])
@@ -41,15 +41,17 @@ class Completing(unittest.TestCase):
             self.assertEqual(self.offers(command, ""), ["--help", *FILES])
             self.assertEqual(self.offers(command, "text.csv", "o"), ["other.db"])
 
-    def test_the_archive_of_a_day(self) -> None:
-        self.assertEqual(self.offers("day", ""), ["--archive", "--help", *FILES])
+    def test_the_file_of_a_day(self) -> None:
+        self.assertEqual(self.offers("day", ""), ["--archive", "--book", "--help", *FILES])
         self.assertEqual(self.offers("day", "--a"), ["--archive"])
+        self.assertEqual(self.offers("day", "--b"), ["--book"])
         self.assertEqual(self.offers("day", "--archive", ""), FILES)
+        self.assertEqual(self.offers("day", "--book", "o"), ["other.db"])
         self.assertEqual(self.offers("day", "--archive", "a"), ["a book.db"])
         self.assertEqual(self.offers("day", "--archive", "other.db", "t"), ["text.csv"])
 
-    def test_the_file_of_audit_and_migrate(self) -> None:
-        for command in ("audit", "migrate"):
+    def test_the_file_of_audit_text_and_migrate(self) -> None:
+        for command in ("audit", "text", "migrate"):
             self.assertEqual(self.offers(command, ""), ["--help", *FILES])
             self.assertEqual(self.offers(command, "o"), ["other.db"])
             self.assertEqual(self.offers(command, "--"), ["--help"])

@@ -3,7 +3,7 @@ use Rattle.std.specs.Prelude.{◌≡◌, ⊤, ℕ, List, Option, None, Result, E
 use Rattle.sqlite_trees.specs.declared.store.Store.{Ghosts}
 use Rattle.sqlite.specs.Held.{Held}
 use Rattle.sqlite.specs.declared.error.Error.{Error}
-use Rattle.gasday_words.specs.Ordered.{Ordered, Text, ArchivedDay, Migrate}
+use Rattle.gasday_words.specs.Ordered.{Ordered, Text, ArchivedDay, LiveDay, Migrate}
 use Rattle.gasday_words.specs.declared.order.Command.TheVariants as command
 use Rattle.gasday_part.specs.Answers.{Told}
 use Rattle.gasday_part.specs.Output.{WritesTold}
@@ -25,8 +25,9 @@ AnswersOrder g gives order text left a = Answers g gives order text left a
 abbrev pub CarriesOut : {S : Type 0} → Ghosts S → (Result (Held S) Error → Type 0) → Ordered → List ℕ → Option (Held S) → Option (List ℕ) → Option (List ℕ) → ℕ → Type 0
 CarriesOut g gives order text left old new status = WritesTold (AnswersOrder g gives order text left) old new status
 
--- The exit status of an order whose archive is closed so: 2 where what it kept or migrated isn't copied into the archive's file.
+-- The exit status of an order whose file is closed so: 2 where what it kept or migrated isn't copied from the log into the file.
 abbrev pub status_closed : Ordered → Result ⊤ Error → ℕ → ℕ
 status_closed (ArchivedDay file) (Err error) status = 2
+status_closed (LiveDay file) (Err error) status = 2
 status_closed (Migrate file) (Err error) status = 2
 status_closed order closed status = status

@@ -1,4 +1,4 @@
-//! The file of an archive.
+//! The file that an order names: an archive's, or a book's.
 
 use gasday_archive::Opener;
 use gasday_words::Order;
@@ -7,19 +7,18 @@ use std::fs::metadata;
 
 /// The file that an order names.
 #[derive(Drop)]
-pub(crate) struct ArchiveFile<'a> {
+pub(crate) struct NamedFile<'a> {
     pub(crate) rt: &'a HostRuntime,
     pub(crate) order: Order<'a>,
 }
 
-impl<'a> ArchiveFile<'a> {
-    /// The name of the file. `day --archive` makes it where there is none; who audits or migrates an archive names one that is
-    /// there.
+impl<'a> NamedFile<'a> {
+    /// The name of the file. A gas day makes it where there is none; who audits, migrates or prints one names one that is there.
     fn name(&self) -> Option<&'a str> {
         match self.order {
-            Order::Text(_) | Order::ArchivedDay("") => None,
-            Order::ArchivedDay(file) => Some(file),
-            Order::Audit(file) | Order::Migrate(file) => match metadata(self.rt, file) {
+            Order::Text(_) | Order::ArchivedDay("") | Order::LiveDay("") => None,
+            Order::ArchivedDay(file) | Order::LiveDay(file) => Some(file),
+            Order::Audit(file) | Order::Migrate(file) | Order::BookText(file) => match metadata(self.rt, file) {
                 Ok(found) if found.len() > 0 => Some(file),
                 _ => None,
             },
@@ -27,7 +26,7 @@ impl<'a> ArchiveFile<'a> {
     }
 }
 
-impl<'a> Opener<FileStore<File>> for ArchiveFile<'a> {
+impl<'a> Opener<FileStore<File>> for NamedFile<'a> {
     ghost use Rattle.std.specs.Prelude.{⊤};
 
     // Whatever the file is, or why it can't be opened.
@@ -41,11 +40,10 @@ impl<'a> Opener<FileStore<File>> for ArchiveFile<'a> {
     }
 }
 
-/// Closes an archive that was opened, and copies its log into its file. Where that fails both stay, and what was kept stands
-/// in the log.
-pub(crate) fn close(archive: Option<Connection<FileStore<File>>>) -> Result<(), Error> {
-    match archive {
-        Some(archive) => archive.close(),
+/// Closes a file that was opened, and copies its log into it. Where that fails both stay, and what was kept stands in the log.
+pub(crate) fn close(file: Option<Connection<FileStore<File>>>) -> Result<(), Error> {
+    match file {
+        Some(file) => file.close(),
         None => Ok(()),
     }
 }

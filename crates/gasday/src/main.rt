@@ -8,13 +8,16 @@ ghost use Rattle.gasday_part.specs.Answers.{fault_answer, no_memory, one};
 ghost use Rattle.gasday_part.specs.Output.{WritesTold};
 ghost use Rattle.gasday_archive.specs.Runs.{OrNoMemory, Tells};
 ghost use Rattle.gasday.specs.Carried.{AnswersOrder, AnswersSlots, CarriesOut, status_closed};
+ghost use Rattle.gasday_archive.specs.Orders.{IsAnswered};
 
+mod book;
 mod file;
 mod input;
 mod noted;
 mod told;
 
-use crate::file::{ArchiveFile, close};
+use crate::book::{print_over, serve_over};
+use crate::file::{NamedFile, close};
 use crate::input::{Text, Unread};
 use crate::noted::Noted;
 use crate::told::{tell_unclosed, tell_unread, tell_unwritten, tell_waiting, tell_why};
@@ -24,36 +27,35 @@ use gasday_part::{last_of, of_fault, write_answer};
 use gasday_words::{Command, Order, Request, UsageFault, request_of};
 use gd_replies::Reply;
 use gd_text_part::TextFault;
-use sqlite::{Alter, Connection, Error};
+use sqlite::{Alter, Connection, Error, File, FileStore};
 use std::alloc::Global;
-use std::io::Write;
+use std::io::{Read, Write};
 use std::process::ExitCode;
 use std::sync::Wait;
 use std::thread::Threads;
 use std::time::Clock;
 use std::{env, io};
 
-/// The exit status of an order whose archive is closed so: 2 where what it kept or migrated is not in the archive's file, which
-/// people are told.
+/// How an order was carried out: its exit status, the row with which that is told where it isn't 0, if it is known, and the file
+/// that it opened, as it is left, to be closed.
+#[derive(Drop)]
+struct Ran<S: Alter + Drop> {
+    status: u8,
+    last: Option<Reply>,
+    file: Option<Connection<S>>,
+}
+
+/// The exit status of an order whose file is closed so: 2 where what it kept or migrated is not in the file, which people are told.
 fn closed(rt: &HostRuntime, order: Order<'_>, closed: Result<(), Error>, status: u8) -> u8
     ensures { result ≡ status_closed (seen order.entry) closed status }
 {
     match (order, closed) {
-        (Order::ArchivedDay(_) | Order::Migrate(_), Err(error)) => {
+        (Order::ArchivedDay(_) | Order::LiveDay(_) | Order::Migrate(_), Err(error)) => {
             tell_unclosed(rt, &error);
             2
         }
         _ => status,
     }
-}
-
-/// How an order was carried out: its exit status, the row with which its answer ends, and the archive that it opened, as it is
-/// left, to be closed.
-#[derive(Drop)]
-struct Ran<S: Alter + Drop> {
-    status: u8,
-    last: Option<Reply>,
-    archive: Option<Connection<S>>,
 }
 
 /// What the text of an office is answered, for which nothing is opened.
@@ -75,6 +77,7 @@ fn answered<T: Threads + Wait + Clock + Sync, S: Alter + Drop, O: Opener<S>>(
     text: &[u8],
     opener: O,
 ) -> Outcome<S>
+    requires { IsAnswered (seen order) }
     ensures { Tells (AnswersOrder S.Store (O.Opener.opens opener) (seen order.entry) text.now
         result.archive) result.answer }
 {
@@ -93,7 +96,8 @@ fn run_over<T: Threads + Wait + Clock + Sync, S: Alter + Drop, W: Write, O: Open
     writer: &mut W,
     opener: O,
 ) -> Ran<S>
-    ensures { CarriesOut S.Store (O.Opener.opens opener) (seen order.entry) text.now result.archive
+    requires { IsAnswered (seen order) }
+    ensures { CarriesOut S.Store (O.Opener.opens opener) (seen order.entry) text.now result.file
         (W.contents writer.old) (W.contents writer.new) result.status }
 {
     let Outcome { answer, archive } = answered(threads, alloc, order, text, opener);
@@ -103,7 +107,7 @@ fn run_over<T: Threads + Wait + Clock + Sync, S: Alter + Drop, W: Write, O: Open
     Ran {
         status,
         last,
-        archive,
+        file: archive,
     }
 }
 
@@ -115,25 +119,72 @@ fn write_fault<W: Write>(alloc: Global, fault: TextFault, writer: &mut W) -> u8
     write_answer(alloc, writer, &of_fault(alloc, fault))
 }
 
+/// Closes the file of an order that has ended, tells people why it didn't end well, and answers the exit status.
+fn end(
+    rt: &HostRuntime,
+    order: Order<'_>,
+    text: &Text<'_>,
+    ran: Ran<FileStore<File>>,
+    unwritten: Option<&io::Error>,
+) -> u8 {
+    let (status, last) = (ran.status, ran.last);
+    let status = closed(rt, order, close(ran.file), status);
+    match (unwritten, last) {
+        (Some(error), _) => tell_unwritten(rt, error),
+        (None, Some(last)) if status != 0 => tell_why(rt, order, text, &last),
+        _ => {}
+    }
+    status
+}
+
 /// Answers a text on standard output, and tells people why where the answer isn't good. Answers the exit status.
 fn answer<T: Threads + Wait + Clock + Sync>(
     threads: &T,
     rt: &HostRuntime,
     order: Order<'_>,
     text: &Text<'_>,
-) -> u8 {
+) -> u8
+    requires { IsAnswered (seen order) }
+{
     let mut writer = Noted::new(io::writer(rt));
-    let file = ArchiveFile { rt, order };
+    let file = NamedFile { rt, order };
     let bytes = text.bytes.as_slice();
     let ran = run_over(threads, rt.alloc(), order, bytes, &mut writer, file);
-    let (status, last) = (ran.status, ran.last);
-    let status = closed(rt, order, close(ran.archive), status);
-    match (writer.error(), last) {
-        (Some(error), _) => tell_unwritten(rt, error),
-        (None, Some(last)) if status != 0 => tell_why(rt, order, text, &last),
-        _ => {}
+    end(rt, order, text, ran, writer.error())
+}
+
+/// Serves the lines of a reader on the book of an order's file.
+fn serve_lines<T: Threads + Sync, R: Read + Drop>(
+    threads: &T,
+    rt: &HostRuntime,
+    order: Order<'_>,
+    text: &Text<'_>,
+    reader: R,
+) -> u8 {
+    let mut writer = Noted::new(io::writer(rt));
+    let file = NamedFile { rt, order };
+    let ran = serve_over(threads, rt.alloc(), reader, &mut writer, file);
+    end(rt, order, text, ran, writer.error())
+}
+
+/// Serves the lines of the files that a request names, or of standard input as they come.
+fn serve<T: Threads + Sync>(threads: &T, rt: &HostRuntime, request: &Request<'_>) -> u8 {
+    if request.texts.is_empty() {
+        tell_waiting(rt);
+        return serve_lines(threads, rt, request.order, &Text::empty(rt), rt.reader());
     }
-    status
+    match Text::of_files(rt, request.texts.as_slice()) {
+        Ok(text) => serve_lines(threads, rt, request.order, &text, text.bytes.as_slice()),
+        Err(unread) => refuse(rt, request.order, &unread),
+    }
+}
+
+/// Prints the text that the file of an order keeps.
+fn print(rt: &HostRuntime, order: Order<'_>) -> u8 {
+    let mut writer = Noted::new(io::writer(rt));
+    let file = NamedFile { rt, order };
+    let ran = print_over(rt.alloc(), &mut writer, file);
+    end(rt, order, &Text::empty(rt), ran, writer.error())
 }
 
 /// Tells why a text was not read, and answers the exit status.
@@ -168,9 +219,13 @@ fn carry_out<T: Threads + Wait + Clock + Sync>(
     rt: &HostRuntime,
     request: &Request<'_>,
 ) -> u8 {
-    match text_of(rt, request) {
-        Ok(text) => answer(threads, rt, request.order, &text),
-        Err(unread) => refuse(rt, request.order, &unread),
+    match request.order {
+        Order::LiveDay(_) => serve(threads, rt, request),
+        Order::BookText(_) => print(rt, request.order),
+        order => match text_of(rt, request) {
+            Ok(text) => answer(threads, rt, order, &text),
+            Err(unread) => refuse(rt, order, &unread),
+        },
     }
 }
 

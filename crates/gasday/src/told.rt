@@ -46,7 +46,7 @@ pub(crate) fn tell_unread(rt: &HostRuntime, order: Order<'_>, unread: &Unread<'_
     }
 }
 
-/// Tells that what an archive's log has is not in its file yet, and why. It is read from the log all the same.
+/// Tells that what the log of a file has is not in the file yet, and why. It is read from the log all the same.
 pub(crate) fn tell_unclosed(rt: &HostRuntime, error: &Error) {
     if let Ok(message) = format!(in rt.alloc();
         "can't copy the archive's log into its file: {error}; keep FILE-wal beside it"
@@ -63,9 +63,9 @@ fn form_of(order: Order<'_>) -> Option<Form> {
         Order::Text(Command::CheckCut) => Some(Form::CheckCut),
         Order::Text(Command::Solve) => Some(Form::Solve),
         Order::Text(Command::Calendar) => Some(Form::Calendar),
-        Order::Text(Command::Day) | Order::ArchivedDay(_) => Some(Form::Day),
+        Order::Text(Command::Day) | Order::ArchivedDay(_) | Order::LiveDay(_) => Some(Form::Day),
         Order::Text(Command::Office) => Some(Form::Office),
-        Order::Audit(_) | Order::Migrate(_) => None,
+        Order::Audit(_) | Order::Migrate(_) | Order::BookText(_) => None,
     }
 }
 

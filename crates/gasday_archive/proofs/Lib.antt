@@ -1,3 +1,4 @@
+mod Auditing
 mod Keeping
 mod Publications
 mod Running

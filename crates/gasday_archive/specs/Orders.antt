@@ -1,9 +1,9 @@
 -- What an order is answered.
-use Rattle.std.specs.Prelude.{◌≡◌, ℕ, List, Option, None, Result}
+use Rattle.std.specs.Prelude.{◌≡◌, ⊤, ℕ, List, Option, None, Result}
 use Rattle.sqlite_trees.specs.declared.store.Store.{Ghosts}
 use Rattle.sqlite.specs.Held.{Held}
 use Rattle.sqlite.specs.declared.error.Error.{Error}
-use Rattle.gasday_words.specs.Ordered.{Ordered, Text, ArchivedDay, Audit, Migrate}
+use Rattle.gasday_words.specs.Ordered.{Ordered, Text, ArchivedDay, Audit, BookText, LiveDay, Migrate}
 use Rattle.gasday_words.specs.declared.order.Command.{Command}
 use Rattle.gasday_part.specs.Answers.{Told, AnswersBytes}
 use Rattle.gasday_archive.specs.Runs.{TellsAudit, TellsMigration, TellsOpened, TellsBytes, OrNoMemory}
@@ -11,6 +11,12 @@ use Rattle.gasday_archive.specs.Runs.{TellsAudit, TellsMigration, TellsOpened, T
 -- a command's answer to the bytes of a text; no archive comes back
 abbrev pub AnswersCommand : {S : Type 0} → Command → List ℕ → Option (Held S) → Told → Type 0
 AnswersCommand command text left a = (left ≡ None) × AnswersBytes command text a
+
+-- an order that is answered: none that serves the book of a file, or prints its text
+abbrev pub IsAnswered : Ordered → Type 0
+IsAnswered (LiveDay file) = ⊥
+IsAnswered (BookText file) = ⊥
+IsAnswered order = ⊤
 
 -- What an order is answered, whose text has these bytes. A command its answer to them, and a gas day what is told of them and of
 -- the archive that the opener gives, or that memory ran out before. The other two, which read nothing, what is told of that
@@ -20,3 +26,5 @@ Answers g gives (Text command) text left a = OrNoMemory (AnswersCommand command 
 Answers g gives (ArchivedDay file) text left a = OrNoMemory (TellsBytes g gives text) left a
 Answers g gives (Audit file) text left a = TellsOpened g gives (TellsAudit g) left a
 Answers g gives (Migrate file) text left a = TellsOpened g gives (TellsMigration g) left a
+Answers g gives (LiveDay file) text left a = ⊥
+Answers g gives (BookText file) text left a = ⊥

@@ -28,11 +28,11 @@ fn answer_command<S: Alter + Drop>(
 
 /// What an order is answered, and the archive that it opened: its exit status is 0 where the answer is good, 1 where a schedule,
 /// a price or a cut is broken, a posting was kept before, an archive is unsound or is not to be migrated, and 2 after a fault
-/// of the text, the archive or memory. Who audits or migrates an archive reads no text.
+/// of the text, the archive or memory. Who audits or migrates reads no text; a file that keeps a book is audited as such.
 ///
 /// The opener gives the archive of the order's FILE. It is called once at most, and only for an order with a FILE: for a gas day
 /// only once its text and its calendar are good. What it gave comes back as it is left. It asks for an order other than
-/// `office`, which waits for locks.
+/// `office`, which waits for locks, and than `day --book` and `text`, which answer no text.
 pub fn answer_to<S: Alter + Drop, O: Opener<S>>(
     rt: &(impl Threads + Sync),
     alloc: Global,
@@ -41,13 +41,15 @@ pub fn answer_to<S: Alter + Drop, O: Opener<S>>(
     opener: O,
 ) -> Outcome<S>
     requires command { seen order ≢ ordered.Text Command.Office }
+    requires answered { orders.IsAnswered (seen order) }
     ensures { Tells (orders.Answers S.Store (O.Opener.opens opener) (seen order.entry) text.now
         result.archive) result.answer }
 {
     match order {
         Order::Text(command) => answer_command(rt, alloc, command, text),
         Order::ArchivedDay(_) => tell_day(rt, alloc, text, opener),
-        Order::Audit(_) => tell_audit(alloc, opener.open()),
+        Order::Audit(_) => tell_audit(rt, alloc, opener.open()),
         Order::Migrate(_) => tell_migration(alloc, opener.open()),
+        Order::LiveDay(_) | Order::BookText(_) => unreachable!(),
     }
 }

@@ -1,6 +1,8 @@
 //! What is done with an archive that the opener gives.
 
 ghost use Rattle.std.specs.Prelude.{◌≡◌, [], None};
+ghost use Rattle.sqlite.specs.Held.{state};
+ghost use Rattle.sqlite.specs.State.{HasCleanDisk};
 ghost use Rattle.gd_day.specs.Calls.{calls_of};
 ghost use Rattle.gd_day.specs.Groups.{AllPass};
 ghost use Rattle.gd_day.specs.Opening.{opened_of};
@@ -8,10 +10,12 @@ ghost use Rattle.gasday_archive.specs.Runs as spec;
 
 use crate::answer::{of_audit, of_migration, of_no_store};
 use crate::day::tell_in_archive;
+use gasday_live::audit_book;
 use gasday_part::{Answer, calendar_of, of_fault, of_no_calendar};
 use gd_archive::{audit, migrate};
 use gd_book::Book;
 use gd_day::{DayText, day_text_of};
+use gd_journal_store::is_journal;
 use gd_text_part::{Form, Row, rows_in};
 use sqlite::{Alter, Connection, Error};
 use std::alloc::{AllocError, Global};
@@ -51,8 +55,25 @@ impl<S: Alter + Drop> Outcome<S> {
     }
 }
 
+/// Audits an archive, or the book that a file keeps.
+fn audit_file<S: Alter>(
+    rt: &(impl Threads + Sync),
+    alloc: Global,
+    conn: &mut Connection<S>,
+) -> Result<Answer, AllocError>
+    ensures { spec.Tells (λ a. HasCleanDisk (state S.Store conn.new)
+        → spec.TellsAudit S.Store conn.old conn.new a) result }
+{
+    if is_journal(conn) {
+        return audit_book(rt, alloc, conn);
+    }
+    let found = audit(conn, alloc);
+    of_audit(alloc, &found)
+}
+
 /// Audits what was opened.
 pub(crate) fn tell_audit<S: Alter + Drop>(
+    rt: &(impl Threads + Sync),
     alloc: Global,
     opened: Result<Connection<S>, Error>,
 ) -> Outcome<S>
@@ -62,9 +83,9 @@ pub(crate) fn tell_audit<S: Alter + Drop>(
     let Ok(mut conn) = opened else {
         return Outcome::unopened(of_no_store(alloc));
     };
-    let found = audit(&mut conn, alloc);
+    let answer = audit_file(rt, alloc, &mut conn);
     Outcome {
-        answer: of_audit(alloc, &found),
+        answer,
         archive: Some(conn),
     }
 }

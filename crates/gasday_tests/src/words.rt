@@ -4,7 +4,7 @@ use gasday_words::{Command, Order, Request, UsageFault, request_of};
 use std::alloc::AllocError;
 use std::test::Fail;
 
-const LINES: [(&[&str], &str); 52] = [
+const LINES: [(&[&str], &str); 57] = [
     (&[], "allowed"),
     (&["gasday"], "allowed"),
     (&["gasday", "check", "allowed"], "allowed"),
@@ -46,12 +46,20 @@ const LINES: [(&[&str], &str); 52] = [
     (&["gasday", "day", "--archive=a.db"], "archived day"),
     (&["gasday", "day", "--archive"], "usage"),
     (&["gasday", "audit", "a.db"], "audit"),
+    (&["gasday", "day", "--book", "a.db"], "live day"),
+    (&["gasday", "text", "a.db"], "text"),
     (&["gasday", "migrate", "a.db"], "migrate"),
     (&["gasday", "audit"], "usage"),
     (&["gasday", "audit", "a.db", "b.db"], "usage"),
     (&["gasday", "migrate"], "usage"),
+    (&["gasday", "text"], "usage"),
+    (
+        &["gasday", "day", "--book", "a.db", "--archive", "b.db"],
+        "usage",
+    ),
     (&["gasday", "audit", "--help"], "help of audit"),
     (&["gasday", "migrate", "--help"], "help of migrate"),
+    (&["gasday", "text", "--help"], "help of text"),
     (&["gasday", "office", "--archive", "a.db"], "usage"),
     (&["gasday", "nonsense"], "usage"),
     (&["gasday", ""], "usage"),
@@ -80,14 +88,16 @@ fn command_name(command: Command) -> &'static str {
     }
 }
 
-/// The name of an order on the archive a.db, and else nothing.
+/// The name of an order on the file a.db, and else nothing.
 fn order_name(order: Order<'_>) -> &'static str {
     match order {
         Order::Text(command) => command_name(command),
         Order::ArchivedDay("a.db") => "archived day",
+        Order::LiveDay("a.db") => "live day",
+        Order::BookText("a.db") => "text",
         Order::Audit("a.db") => "audit",
         Order::Migrate("a.db") => "migrate",
-        _ => "another archive",
+        _ => "another file",
     }
 }
 
@@ -138,6 +148,7 @@ fn reads_well(answer: &str, text: &str) -> bool {
                 && text.ends_with('\n')
         }
         "help of audit" => text.contains("\n  gasday audit postings.db\n") && text.ends_with('\n'),
+        "help of text" => text.contains("\n  gasday text 0308.book\n") && text.ends_with('\n'),
         "help of migrate" => {
             text.contains("\n  gasday migrate postings.db\n") && text.ends_with('\n')
         }

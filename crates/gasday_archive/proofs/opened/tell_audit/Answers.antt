@@ -1,6 +1,6 @@
 use Rattle.std.proofs.Common.{◌≡◌, Some, IfOk, refl, sym, subst}
 use Rattle.gasday_part.specs.AnswerSeen.{answer_seen}
-use Rattle.gasday_archive.specs.Archives.{audited, no_store}
+use Rattle.gasday_archive.specs.Archives.{no_store}
 use Rattle.gasday_archive.specs.Runs.{TellsAudit, TellsOf}
 use Rattle.gasday_archive.proofs.opened.tell_audit.Goals as goal
 
@@ -12,8 +12,10 @@ returns-in_default g c = record {
 }
 
 pub returns : goal.returns
-returns g c = record {
-  told = audited c.audit-found.result;
-  means = subst (λ o. TellsOf g.S.Store (TellsAudit g.S.Store) o (Some c.audit-found.new.conn) (audited c.audit-found.result)) (sym c.in-Ok.is) (λ clean. (c.audit-found.result, c.audit-found.ensures.audited clean, refl));
-  is = c.of_audit.ensures;
-}
+returns g c =
+    let t = c.audit_file-answer.ensures in
+    record {
+      told = t.told;
+      means = subst (λ o. TellsOf g.S.Store (TellsAudit g.S.Store) o (Some c.audit_file-answer.new.conn) t.told) (sym c.in-Ok.is) t.means;
+      is = t.is;
+    }

@@ -1,0 +1,34 @@
+-- What is done with the file of a book, and what is written of it.
+use Rattle.std.specs.Prelude.{◌≡◌, ◌⊎◌, ℕ, List, Option, Some, None, Result, Ok, Err}
+use Rattle.sqlite_trees.specs.declared.store.Store.{Ghosts}
+use Rattle.sqlite.specs.Held.{Held, state}
+use Rattle.sqlite.specs.State.{HasCleanDisk}
+use Rattle.sqlite.specs.declared.error.Error.{Error}
+use Rattle.gd_replies.specs.declared.reply.Reply.TheVariants as reply
+use Rattle.gasday_part.specs.Answers.{one}
+use Rattle.gasday_part.specs.Output.{WritesTold}
+use Rattle.gasday_live.specs.Runs.{Runs}
+use Rattle.gasday_live.specs.Texts.{Prints}
+
+-- a file that can't be opened is told so, or that another process has it
+abbrev pub TellsUnopened : Option (List ℕ) → Option (List ℕ) → ℕ → Type 0
+TellsUnopened before behind status = WritesTold (λ a. (a ≡ one reply.Store 2) ⊎ (a ≡ one reply.Busy 2)) before behind status
+
+-- What is done on a file that the opener gives, where its store is clean at the end; or that it can't be opened.
+abbrev pub DoesOn : {S : Type 0} → Ghosts S → (Held S → Held S → Type 0) → Type 0 → Result (Held S) Error → Option (Held S) → Type 0
+DoesOn g does unopened (Ok opened) (Some left) = HasCleanDisk (state g left) → does opened left
+DoesOn g does unopened (Ok opened) None = ⊥
+DoesOn g does unopened (Err e) left = (left ≡ None) × unopened
+
+module _ {S : Type 0} (g : Ghosts S) (gives : Result (Held S) Error → Type 0) where
+  -- lines of the input are served on the book of the file that the opener gives
+  abbrev pub ServesFile : Option (List ℕ) → Option (Held S) → Option (List ℕ) → Option (List ℕ) → ℕ → Type 0
+  ServesFile input left before behind status =
+      (opened : Result (Held S) Error) × gives opened
+      × DoesOn g (λ old new. Runs input (state g old) (state g new) before behind status) (TellsUnopened before behind status) opened left
+
+  -- the text that this file keeps is printed
+  abbrev pub PrintsFile : Option (Held S) → Option (List ℕ) → Option (List ℕ) → ℕ → Type 0
+  PrintsFile left before behind status =
+      (opened : Result (Held S) Error) × gives opened
+      × DoesOn g (λ old new. Prints (state g old) before behind status) (TellsUnopened before behind status) opened left

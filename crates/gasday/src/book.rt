@@ -1,0 +1,97 @@
+//! Orders on the file of a book.
+
+ghost use Rattle.std.specs.Prelude.{◌≡◌, ◌⊎◌};
+ghost use Rattle.gd_replies.specs.declared.reply.Reply.TheVariants as reply;
+ghost use Rattle.gasday.specs.Files.{PrintsFile, ServesFile, TellsUnopened};
+
+use crate::Ran;
+use gasday_archive::Opener;
+use gasday_live::{print_book, serve_book};
+use gasday_part::{last_of, of_one, write_answer};
+use gd_replies::Reply;
+use sqlite::{Alter, Error, ErrorCode};
+use std::alloc::Global;
+use std::io::{Read, Write};
+use std::thread::Threads;
+
+/// The row of a file that can't be opened.
+fn unopened_row(error: &Error) -> Reply
+    ensures { (result ≡ reply.Store) ⊎ (result ≡ reply.Busy) }
+{
+    match error {
+        Error::SqliteFailure(ErrorCode::DatabaseBusy) => Reply::Busy,
+        _ => Reply::Store,
+    }
+}
+
+/// Writes that a file can't be opened.
+fn write_unopened<S: Alter + Drop, W: Write>(
+    alloc: Global,
+    error: &Error,
+    writer: &mut W,
+) -> Ran<S>
+    ensures told { TellsUnopened (W.contents writer.old) (W.contents writer.new) result.status }
+    ensures file { result.file ≡ None }
+{
+    let answer = of_one(alloc, unopened_row(error), 2);
+    let status = write_answer(alloc, writer, &answer);
+    let last = last_of(&answer);
+    drop(answer);
+    Ran {
+        status,
+        last,
+        file: None,
+    }
+}
+
+/// Serves lines of a reader, as they come, on the book of the file that the opener gives.
+pub(crate) fn serve_over<T, S, R, W, O>(
+    threads: &T,
+    alloc: Global,
+    reader: R,
+    writer: &mut W,
+    opener: O,
+) -> Ran<S>
+where
+    T: Threads + Sync,
+    S: Alter + Drop,
+    R: Read + Drop,
+    W: Write,
+    O: Opener<S>,
+    ensures { ServesFile S.Store (O.Opener.opens opener) (R.remaining reader) result.file
+        (W.contents writer.old) (W.contents writer.new) result.status }
+{
+    match opener.open() {
+        Ok(mut conn) => {
+            let status = serve_book(threads, alloc, &mut conn, reader, writer);
+            Ran {
+                status,
+                last: None,
+                file: Some(conn),
+            }
+        }
+        Err(error) => write_unopened(alloc, &error, writer),
+    }
+}
+
+/// Prints the text that the file keeps which the opener gives.
+pub(crate) fn print_over<S: Alter + Drop, W: Write, O: Opener<S>>(
+    alloc: Global,
+    writer: &mut W,
+    opener: O,
+) -> Ran<S>
+    ensures { PrintsFile S.Store (O.Opener.opens opener) result.file
+        (W.contents writer.old) (W.contents writer.new) result.status }
+{
+    match opener.open() {
+        Ok(mut conn) => {
+            let status = print_book(alloc, &mut conn, writer);
+            Ran {
+                status,
+                last: None,
+                file: Some(conn),
+            }
+        }
+        Err(error) => write_unopened(alloc, &error, writer),
+    }
+}
