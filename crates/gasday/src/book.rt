@@ -25,11 +25,7 @@ fn unopened_row(error: &Error) -> Reply
 }
 
 /// Writes that a file can't be opened.
-fn write_unopened<S: Alter + Drop, W: Write>(
-    alloc: Global,
-    error: &Error,
-    writer: &mut W,
-) -> Ran<S>
+fn write_unopened<S: Alter + Drop, W: Write>(alloc: Global, error: &Error, writer: &mut W) -> Ran<S>
     ensures told { TellsUnopened (W.contents writer.old) (W.contents writer.new) result.status }
     ensures file { result.file ≡ None }
 {

@@ -18,7 +18,9 @@ impl<'a> NamedFile<'a> {
         match self.order {
             Order::Text(_) | Order::ArchivedDay("") | Order::LiveDay("") => None,
             Order::ArchivedDay(file) | Order::LiveDay(file) => Some(file),
-            Order::Audit(file) | Order::Migrate(file) | Order::BookText(file) => match metadata(self.rt, file) {
+            Order::Audit(file) | Order::Migrate(file) | Order::BookText(file) => match metadata(
+                self.rt, file,
+            ) {
                 Ok(found) if found.len() > 0 => Some(file),
                 _ => None,
             },

@@ -64,11 +64,7 @@ pub fn write_text<S: Alter, W: Write>(
 
 /// Prints the text that a book's file keeps, and answers the exit status: 0 where all of it was written; and 2 where the file
 /// can't be read, which is told behind what was written, or the writer failed.
-pub fn print_book<S: Alter, W: Write>(
-    alloc: Global,
-    conn: &mut Connection<S>,
-    writer: &mut W,
-) -> u8
+pub fn print_book<S: Alter, W: Write>(alloc: Global, conn: &mut Connection<S>, writer: &mut W) -> u8
     ensures printed { HasCleanDisk (state S.Store conn.new) → Prints (state S.Store conn.old) (W.contents writer.old)
         (W.contents writer.new) result }
     ensures clean { HasCleanDisk (state S.Store conn.new) → HasCleanDisk (state S.Store conn.old) }
