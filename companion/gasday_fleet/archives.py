@@ -1,0 +1,61 @@
+"""An archive as a worker audits it, by `gasday audit`."""
+
+import os
+import tempfile
+import time
+from collections.abc import Sequence
+
+from .program import Answer, Program, Told, failure, no_answer, sha256_of_file
+
+# What stands beside an archive: its last changes, where they are not copied into it yet. With no more than its own head and
+# that of a page it holds none.
+LOG, EMPTY_LOG = "-wal", 32 + 24
+
+
+def verdict_of(told: Told) -> Answer:
+    if told.is_a("audited", 0):
+        return {"verdict": "sound", "told": told.first(), "postings": told.rows()[0][1]}
+    if told.is_a("unsound", 1):
+        return {"verdict": "unsound", "told": told.first()}
+    if told.is_a("fault", 2):
+        return failure(told.first())
+    raise no_answer(told, "audit")
+
+
+def audit_archive(program: Program, path: str) -> Answer:
+    """Audits a file that the worker sees."""
+    try:
+        before = sha256_of_file(path)
+        begun = time.monotonic()
+        told = program.call(["audit", path])
+        seconds = time.monotonic() - begun
+        if sha256_of_file(path) != before:
+            return failure("it changed while it was audited")
+    except OSError as error:
+        return failure(f"it can't be read: {error.strerror}")
+    return {**verdict_of(told), "seconds": f"{seconds:.3f}", "sha256": before}
+
+
+def audit_sent(program: Program, data: bytes, log: bytes) -> list[Answer]:
+    """Audits a file that was sent, with the log beside it."""
+    with tempfile.TemporaryDirectory(prefix="gasday-fleet-") as folder:
+        path = os.path.join(folder, "archive.db")
+        for name, content in ((path, data), (path + LOG, log)):
+            if content or name == path:
+                with open(name, "wb") as file:
+                    file.write(content)
+        return [audit_archive(program, path)]
+
+
+def audit_archives(program: Program, paths: Sequence[str]) -> list[Answer]:
+    return [audit_archive(program, path) for path in paths]
+
+
+def log_of(path: str) -> bytes:
+    """The log beside an archive; nothing where it holds no changes."""
+    try:
+        with open(path + LOG, "rb") as file:
+            log = file.read()
+    except FileNotFoundError:
+        return b""
+    return log if len(log) > EMPTY_LOG else b""
