@@ -45,7 +45,7 @@ class Importing(unittest.TestCase):
 
 class Unchanged(Importing):
     def test_each_example_comes_out_byte_for_byte_and_nothing_is_told(self) -> None:
-        for example in sorted((TOP / "examples").rglob("*.csv")):
+        for example in sorted(set((TOP / "examples").rglob("*.csv")) - set((TOP / "examples").rglob("scenarios.csv"))):
             for words in ((), ("--strict",)):
                 with self.subTest(example.name, words=words):
                     self.assertEqual(run(example.read_bytes(), *words), (example.read_bytes(), "", 0))

@@ -13,7 +13,7 @@ from pathlib import Path
 from helpers import TOP, TWO_LINES, TWO_LINES_ANSWER, TWO_LINES_TOLD, ReportTest
 
 COMPANION = TOP / "companion"
-COMMANDS = ("gasday-import", "gasday-report")
+COMMANDS = ("gasday-fleet", "gasday-import", "gasday-report")
 HAS_BUILD = all(map(importlib.util.find_spec, ("pip", "setuptools", "wheel")))
 
 
@@ -70,6 +70,10 @@ class Running(ReportTest):
         text = self.path("text.csv", TWO_LINES)
         told = run(place / "bin" / "gasday-import", "--strict", text, folder=self.folder.name, path=str(place))
         self.assertEqual(told, (TWO_LINES.encode(), b"", 0))
+        told = run(place / "bin" / "gasday-fleet", "audit", "--serial", "--untimed", text, "--gasday", self.program("gasday\n"),
+                   folder=self.folder.name, path=str(place))
+        self.assertEqual(told[2], 2)
+        self.assertIn(b"text.csv,,failed,", told[0])
 
 
 if __name__ == "__main__":

@@ -1,0 +1,93 @@
+"""gasday-fleet with the built program, where there is one, or the one that GASDAY names in the environment."""
+
+import os
+import shutil
+import sqlite3
+import subprocess
+import unittest
+from pathlib import Path
+
+from fleet_helpers import FleetTest, cells_of, dask_python, rows_of
+from helpers import TOP
+
+from certificate import Answer, Question, verdict_of
+from gasday_report.verdicts import BUILT
+
+PROGRAM = Path(os.environ.get("GASDAY", BUILT))
+DAY = TOP / "examples" / "gas-day" / "two-cycles.csv"
+STUDY = [str(TOP / "examples" / "study" / name) for name in ("base.csv", "scenarios.csv")]
+
+
+@unittest.skipUnless(os.access(PROGRAM, os.X_OK), "no program is built")
+class Built(FleetTest):
+    def setUp(self) -> None:
+        super().setUp()
+        self.program = PROGRAM.resolve()
+
+    def gasday(self, *words: str, text: bytes) -> bytes:
+        return subprocess.run([self.program, *words], input=text, cwd=self.folder, capture_output=True, timeout=600).stdout
+
+    def change(self, name: str, old: str, new: str) -> None:
+        """Tampers with the first posting of an archive."""
+        archive = sqlite3.connect(self.folder / name)
+        archive.execute("update posting2 set body = cast(replace(cast(body as text), ?, ?) as blob) where cycle = 1", (old, new))
+        archive.commit()
+        archive.execute("pragma wal_checkpoint(truncate)")
+        archive.close()
+
+    def test_archives(self) -> None:
+        self.gasday("day", "--archive", "0.db", text=DAY.read_bytes())
+        for number in range(1, 8):
+            shutil.copyfile(self.folder / "0.db", self.folder / f"{number}.db")
+        self.change("5.db", "sched,1,70", "sched,1,69")
+        self.put("6.db", "no archive")
+        names = [f"{number}.db" for number in range(8)]
+        out, _, status = self.serial("audit", *names, "--untimed")
+        self.assertEqual(cells_of(out, "verdict"), ["sound"] * 5 + ["unsound", "failed", "sound"])
+        self.assertEqual((set(cells_of(out, "postings")), status), ({"2", ""}, 2))
+        told = self.gasday("audit", "5.db", text=b"").decode().rstrip(",\n")
+        self.assertEqual(rows_of(out)[5]["told"], told)
+        self.assertEqual(rows_of(out)[6]["told"], "fault,0,Store")
+        if python := dask_python():
+            for more in ((), ("--send",)):
+                self.assertEqual(self.fleet("audit", *names, "--untimed", "--workers", "2", *more, python=python)[0], out)
+
+    def test_days(self) -> None:
+        for folder in ("same", "told", "kept", "text"):
+            self.put(f"{folder}/texts/2026-03-08.csv", DAY.read_bytes())
+            (self.folder / folder / "told").mkdir()
+            told = self.gasday("day", "--archive", f"{folder}/archive.db", text=DAY.read_bytes()).decode()
+            self.put(f"{folder}/told/2026-03-08.csv", told.replace("bumped,1,20", "bumped,1,19") if folder == "told" else told)
+        self.change("kept/archive.db", "sched,1,70", "sched,1,69")
+        self.put("text/texts/2026-03-08.csv", DAY.read_text().replace("S1,A,B,100", "S1,A,B,99"))
+        folders = ("same", "told", "kept", "text")
+        self.assertEqual(cells_of(self.serial("days", *folders)[0], "verdict"), ["same", "differs", "same", "differs"])
+        out, error, status = self.serial("days", *folders, "--archive")
+        self.assertEqual((cells_of(out, "verdict"), status), (["same", "differs", "differs", "differs"], 1))
+        self.assertEqual(cells_of(out, "postings"), ["2"] * 4)
+        self.assertIn("told/2026-03-08: differs: row 25 that was told is bumped,1,19, and gasday day tells bumped,1,20\n", error)
+        self.assertIn("kept/2026-03-08: differs: the posting of cycle 1 that is kept is not the one that is published\n", error)
+
+    def test_a_study(self) -> None:
+        """Some answers are held against certificate.py, and all against the totals of the base."""
+        out, error, status = self.serial("study", *STUDY)
+        self.assertEqual((error.splitlines()[-1], status), ("gasday-fleet: 153 scenarios: 141 best, 12 impossible", 1))
+        rows = rows_of(out)
+        base = [58000, 21000, 10000, 7751, 6751, 833, 0, 416]  # as examples/README.md has it
+        for row in rows:
+            sums = [int(row[f"total_{c}"]) + int(row[f"loss_{c}"]) for c in range(1, 9) if row["verdict"] == "best"]
+            self.assertEqual(sums, base if sums else [])
+        for row in rows[::17] + [row for row in rows if row["verdict"] == "impossible"][:3]:
+            text = self.serial("study", *STUDY, "--question", row["scenario"])[0]
+            asked = Question(text)
+            told = self.gasday("solve", text=text.encode()).decode()
+            answer = Answer(told, asked)
+            verdict_of(asked, answer)
+            self.assertEqual(answer.is_cut, row["verdict"] == "impossible")
+            self.assertEqual(told.splitlines()[0].rstrip(","), row["told"] or "best")
+        if python := dask_python():
+            self.assertEqual(self.fleet("study", *STUDY, "--workers", "3", "--batch", "10", python=python)[0], out)
+
+
+if __name__ == "__main__":
+    unittest.main()

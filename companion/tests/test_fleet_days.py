@@ -1,0 +1,87 @@
+"""gasday-fleet days: gas days that are run once more, and compared with what was told and kept."""
+
+import sqlite3
+import unittest
+
+from fleet_helpers import FleetTest, cells_of, rows_of
+
+TEXT = "segment,S1,A,B,100,,,\nday,2026-01-15,CST6,N-0115,,,,\n" + "settle,1,,,,,,\n" * 3
+TOLD = "".join(f"published,{at},{at},{at},,,,\n" for at in (1, 2, 3))
+
+
+class Days(FleetTest):
+    def folder_of(self, name: str, **days: tuple[str, str]) -> str:
+        """A folder with gas days, each a text and what was told."""
+        for day, (text, told) in days.items():
+            self.put(f"{name}/texts/{day}.csv", text)
+            self.put(f"{name}/told/{day}.csv", told)
+        return name
+
+    def archive(self, folder: str, *rows: tuple[object, ...]) -> None:
+        archive = sqlite3.connect(self.folder / folder / "archive.db")
+        archive.execute("create table posting2 (book, cycle, round, body, rule)")
+        archive.executemany("insert into posting2 values (?, ?, ?, ?, 2)", rows)
+        archive.commit()
+        archive.close()
+
+    def test_days_of_folders(self) -> None:
+        same = self.folder_of("NORTH", a=(TEXT, TOLD), b=(TEXT, TOLD + "refused,keep,1,Kept,,,,\n"))
+        other = self.folder_of("SOUTH", a=(TEXT, TOLD.replace("published,2", "published,4")), b=(TEXT, TOLD[:40]))
+        out, error, status = self.serial("days", same, other)
+        self.assertEqual((cells_of(out, "verdict"), status), (["same", "same", "differs", "differs"], 1))
+        self.assertEqual(cells_of(out, "folder"), ["NORTH", "NORTH", "SOUTH", "SOUTH"])
+        self.assertEqual(cells_of(out, "day"), ["a", "b"] * 2)
+        self.assertEqual(set(cells_of(out, "postings") + cells_of(out, "kept_sha256")), {""})
+        self.assertIn("SOUTH/a: differs: row 2 that was told is published,4,2,2, and gasday day tells published,2,2,2\n", error)
+        self.assertIn("SOUTH/b: differs: row 3 that was told is nothing, and gasday day tells published,3,3,3\n", error)
+        self.assertIn("4 gas days: 2 same, 2 differs\n", error)
+
+    def test_what_cannot_be_run(self) -> None:
+        folder = self.folder_of("NORTH", a=(TEXT, TOLD), b=("nonsense\n", ""))
+        self.put("NORTH/texts/c.csv", TEXT)
+        self.put("NORTH/told/d.csv", TOLD)
+        out, error, status = self.serial("days", folder, "nowhere")
+        self.assertEqual((cells_of(out, "verdict"), status), (["same", "failed", "failed", "failed", "failed"], 2))
+        for words in ("NORTH/b: failed: fault,1,UnknownKind,1", "NORTH/d: failed: texts/d.csv can't be read",
+                      "NORTH/c: failed: told/c.csv can't be read: No such file or directory",
+                      "nowhere/*: failed: texts/*.csv can't be read"):
+            self.assertIn(words, error)
+
+    def test_postings(self) -> None:
+        day = {"a": (TEXT, TOLD)}
+        kept = [("N-0115", at, at, b"body %d" % at) for at in (1, 2, 3)]
+        for name, rows in (("same", [*kept, ("OTHER", 1, 1, b"")]), ("fewer", kept[:2]), ("more", [*kept, ("N-0115", 4, 4, b"")]),
+                           ("other", [*kept[:2], ("N-0115", 3, 3, b"body 4")])):
+            self.archive(self.folder_of(name, **day), *rows)
+        self.folder_of("none", **day)
+        out, error, status = self.serial("days", "same", "fewer", "more", "other", "none", "--archive")
+        self.assertEqual((cells_of(out, "verdict"), status), (["same", "differs", "differs", "differs", "failed"], 2))
+        self.assertEqual(cells_of(out, "postings"), ["3", "2", "4", "3", ""])
+        for words in ("fewer/a: differs: cycle 3 is published, and not kept",
+                      "more/a: differs: cycle 4 is kept, and not published",
+                      "other/a: differs: the posting of cycle 3 that is kept is not the one that is published",
+                      "none/a: failed: archive.db can't be read: unable to open database file"):
+            self.assertIn(words + "\n", error)
+
+    def test_days_that_are_sent(self) -> None:
+        self.archive(self.folder_of("NORTH", a=(TEXT, TOLD)), *[("N-0115", at, at, b"body %d" % at) for at in (1, 2, 3)])
+        words = ("days", "NORTH", "nowhere", "--archive", "--untimed")
+        seen, sent = self.serial(*words), self.serial(*words, "--send")
+        self.assertEqual(sent, seen)
+        self.assertEqual(cells_of(sent[0], "verdict"), ["same", "failed"])
+
+    def test_going_on(self) -> None:
+        folder = self.folder_of("NORTH", a=(TEXT, TOLD), b=(TEXT, TOLD), c=(TEXT, TOLD))
+        self.archive(folder, *[("N-0115", at, at, b"body %d" % at) for at in (1, 2, 3)])
+        words = ("days", folder, "--archive", "--output", "table.csv")
+        self.assertEqual(self.serial(*words)[2], 0)
+        before = {row["day"]: row["seconds"] for row in rows_of(self.read("table.csv"))}
+        self.put("NORTH/told/b.csv", TOLD[:20])
+        self.assertEqual(self.serial(*words, "--resume")[2], 1)
+        rows = {row["day"]: row for row in rows_of(self.read("table.csv"))}
+        self.assertEqual([rows[day]["verdict"] for day in "abc"], ["same", "differs", "same"])
+        self.assertEqual((rows["a"]["seconds"], rows["c"]["seconds"]), (before["a"], before["c"]))
+
+
+if __name__ == "__main__":
+    unittest.main()
