@@ -114,14 +114,17 @@ def try_out(archive, folder):
         program, examples = prefix / "bin/gasday", prefix / "share/doc/gasday"
         text, answer = (examples / TRIAL).read_bytes(), examples / ANSWERED
 
-        def runs(told, words, text=b""):
+        def runs(told, words, text=b"", status=0):
             done = subprocess.run(words, input=text, stdout=subprocess.PIPE, env=environment, cwd=scratch)
-            if done.returncode != 0 or not done.stdout.startswith(told):
+            if done.returncode != status or not done.stdout.startswith(told):
                 raise Refused(f"what was installed doesn't run: {words[0]} ends with status {done.returncode}")
 
         runs(b"allowed,,,,,,,\n", [program, "check", "allowed"], text)
         runs(text, [sys.executable, prefix / "bin/gasday-import", "--strict"], text)
         runs(b"PASS  gasday check best", [sys.executable, prefix / "bin/gasday-report", answer, answer, "--gasday", program])
+        study = [examples / "study" / name for name in ("base.csv", "scenarios.csv")]
+        fleet = [sys.executable, prefix / "bin/gasday-fleet", "study", *study, "--serial", "--gasday", program]
+        runs(b"scenario,weather,verdict,", fleet, status=1)
 
 
 def release(options):
