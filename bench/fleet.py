@@ -11,8 +11,9 @@ audit  600 archives: those of 60 pipelines of 60 segments, 30 gas days in five c
 study  10,000 scenarios on a question of 300 places and 1,000 lines, each with one or two other capacities, some with another
        ceiling; also with 1 and 2 workers. All tables have to be the same byte for byte.
 
-A memory is the greatest resident one of a process, looked at each quarter of a second; 1 MB is 1,000,000 bytes. The exit
-status is 1 only where an answer is not the one that it has to be.
+Beside each time stands what the run took of the processors, and what all else on the machine did meanwhile. A memory is the
+greatest resident one of a process, looked at each quarter of a second; 1 MB is 1,000,000 bytes. The exit status is 1 only
+where an answer is not the one that it has to be.
 """
 
 import argparse
@@ -47,7 +48,8 @@ QUESTION = ["branching", "--solve", "--places", "300", "--points", "300", "--poo
 
 class Run(NamedTuple):
     seconds: float
-    processors: float  # seconds that they took, of all processes together
+    processors: float  # seconds that its processes took of them
+    others: float  # seconds that all else on the machine took of them meanwhile
     status: int
     told: str
     own: int  # bytes of the process that has client and scheduler
@@ -155,7 +157,7 @@ def watch(child, most, ended):
 
 def run(given, *words):
     """A run of gasday-fleet."""
-    begun, before = time.perf_counter(), taken_by_children()
+    begun, before, busy = time.perf_counter(), taken_by_children(), taken_by_all()
     child = subprocess.Popen([given.python, FLEET, *words, "--gasday", given.program], stderr=subprocess.PIPE, text=True)
     most, ended = {}, threading.Event()
     watcher = threading.Thread(target=watch, args=(child, most, ended))
@@ -165,7 +167,8 @@ def run(given, *words):
     ended.set()
     watcher.join()
     own = most.pop(child.pid, 0)
-    return Run(seconds, taken_by_children() - before, child.returncode, told, own, list(most.values()))
+    taken = taken_by_children() - before
+    return Run(seconds, taken, taken_by_all() - busy - taken, child.returncode, told, own, list(most.values()))
 
 
 def taken_by_children():
@@ -173,10 +176,16 @@ def taken_by_children():
     return usage.ru_utime + usage.ru_stime
 
 
+def taken_by_all():
+    """Seconds of processors since the machine was started, less those in which they had nothing to do."""
+    user, nice, system, _idle, _waiting, *rest = map(int, Path("/proc/stat").read_text().split("\n")[0].split()[1:9])
+    return (user + nice + system + sum(rest)) / os.sysconf("SC_CLK_TCK")
+
+
 def tell(name, made, count):
     workers = f", workers at most {max(made.workers) / MEGABYTE:.0f} MB each" if made.workers else ""
-    print(f"{name}: {made.seconds:.1f} s, {count / made.seconds:.1f} a second, {made.processors:.0f} s of processors,"
-          f" client and scheduler {made.own / MEGABYTE:.0f} MB{workers}", flush=True)
+    print(f"{name}: {made.seconds:.1f} s, {count / made.seconds:.1f} a second, {made.processors:.0f} s of processors (all else"
+          f" {made.others:.0f} s), client and scheduler {made.own / MEGABYTE:.0f} MB{workers}", flush=True)
 
 
 def measure_audit(given, folder):

@@ -28,6 +28,7 @@ TOP = Path(__file__).resolve().parents[1]
 FOLDERS = ("man", "completions", "examples", "companion", "docs")
 TRIAL = "examples/two-lines.csv"
 ANSWERED = "examples/two-lines-priced.csv"
+STUDIED = "examples/study/base.csv"
 
 INSTALL = """#!/bin/sh
 # install PREFIX
@@ -114,17 +115,18 @@ def try_out(archive, folder):
         program, examples = prefix / "bin/gasday", prefix / "share/doc/gasday"
         text, answer = (examples / TRIAL).read_bytes(), examples / ANSWERED
 
-        def runs(told, words, text=b"", status=0):
+        def runs(told, words, text=b""):
             done = subprocess.run(words, input=text, stdout=subprocess.PIPE, env=environment, cwd=scratch)
-            if done.returncode != status or not done.stdout.startswith(told):
+            if done.returncode != 0 or not done.stdout.startswith(told):
                 raise Refused(f"what was installed doesn't run: {words[0]} ends with status {done.returncode}")
 
         runs(b"allowed,,,,,,,\n", [program, "check", "allowed"], text)
         runs(text, [sys.executable, prefix / "bin/gasday-import", "--strict"], text)
         runs(b"PASS  gasday check best", [sys.executable, prefix / "bin/gasday-report", answer, answer, "--gasday", program])
-        study = [examples / "study" / name for name in ("base.csv", "scenarios.csv")]
-        fleet = [sys.executable, prefix / "bin/gasday-fleet", "study", *study, "--serial", "--gasday", program]
-        runs(b"scenario,weather,verdict,", fleet, status=1)
+        scenarios = Path(scratch, "scenarios.csv")
+        scenarios.write_text("scenario,element,capacity\nless,TRUNK-1,79000\n")
+        fleet = [sys.executable, prefix / "bin/gasday-fleet", "study", examples / STUDIED, scenarios, "--serial"]
+        runs(b"scenario,verdict,told,", [*fleet, "--gasday", program])
 
 
 def release(options):

@@ -15,6 +15,8 @@ Nothing of this is proved. Each answer that it counts has passed `gasday audit` 
 Exit status: 0 all is sound, 1 something is unsound, other than it was told, or impossible, 2 something could not be run,
 or a fault of usage, of reading or of writing."""
 
+NOT_PROVED = """Nothing of this is proved; each answer that it counts has passed what is: `gasday audit`, `gasday day` or
+`gasday check`. `gasday-fleet --help` tells more, and the exit status."""
 AUDIT = "Audits archives, by `gasday audit`. The table has file, postings, verdict, what was told, seconds and SHA-256."
 DAYS = """Runs the gas days of folders once more, by `gasday day`, and compares what it tells with what was told: of each text
 FOLDER/texts/DAY.csv with FOLDER/told/DAY.csv."""
@@ -55,14 +57,14 @@ def parser_of() -> argparse.ArgumentParser:
     parser = argparse.ArgumentParser(prog="gasday-fleet", description=DESCRIPTION,
                                      formatter_class=argparse.RawDescriptionHelpFormatter)
     commands = parser.add_subparsers(dest="command", required=True, metavar="COMMAND")
-    audit = commands.add_parser("audit", help="audit archives", description=AUDIT)
+    audit = commands.add_parser("audit", help="audit archives", description=AUDIT, epilog=NOT_PROVED)
     audit.add_argument("files", nargs="+", metavar="FILE", help="an archive")
     add_files(audit)
-    days = commands.add_parser("days", help="run gas days once more", description=DAYS)
+    days = commands.add_parser("days", help="run gas days once more", description=DAYS, epilog=NOT_PROVED)
     days.add_argument("folders", nargs="+", metavar="FOLDER", help="with texts/, told/ and archive.db")
     days.add_argument("--archive", action="store_true", help="compare the postings kept in FOLDER/archive.db too")
     add_files(days)
-    study = commands.add_parser("study", help="solve a question in many scenarios", description=STUDY)
+    study = commands.add_parser("study", help="solve a question in many scenarios", description=STUDY, epilog=NOT_PROVED)
     study.add_argument("base", metavar="BASE", help="a text for `gasday solve`")
     study.add_argument("scenarios", metavar="SCENARIOS", help="a table of scenarios")
     study.add_argument("--question", metavar="SCENARIO", help="print the question of this scenario, and run nothing")

@@ -92,6 +92,10 @@ class Usage(FleetTest):
         self.assertEqual(status, 0)
         self.assertIn("Nothing of this is proved.", out)
         self.assertIn("has passed `gasday audit`", out)
+        for command in ("audit", "days", "study"):
+            out, _, status = self.fleet(command, "--help")
+            self.assertEqual(status, 0)
+            self.assertIn("Nothing of this is proved; each answer that it counts has passed what is", out)
 
     def test_faults_of_usage(self) -> None:
         for words in (("audit",), ("audit", "x", "--serial", "--workers", "2"), ("audit", "x", "--resume"),
