@@ -93,13 +93,14 @@ class Cluster:
         for future, result in batch:
             if future not in self.given:
                 continue  # it was given anew
-            if future.status == "finished":
-                yield self.given.pop(future), result, None
-            elif future.status == "error":
+            if future.status == "error":
                 yield self.given.pop(future), None, result[1]
-            else:
+            elif isinstance(result, BaseException):
                 self.workers.look()  # which tells whether there is a scheduler
                 yield self.given.pop(future), None, result
+            else:
+                # (its state may be another one by now, where the worker that had the result has ended since)
+                yield self.given.pop(future), result, None
 
     def once(self, function: Callable[..., Any], *arguments: Any) -> Any:
         self.give(Call(function, arguments), None, self.retries)
