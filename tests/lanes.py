@@ -6,7 +6,7 @@ import os
 ROOM = 4_500_000_000
 
 
-def lanes():
-    """As many as there are processors to use, as far as memory allows."""
+def lanes(more=0):
+    """As many as there are processors to use, and so many more, as far as memory allows."""
     memory = os.sysconf("SC_PAGE_SIZE") * os.sysconf("SC_PHYS_PAGES")
-    return max(1, min(len(os.sched_getaffinity(0)), memory // ROOM))
+    return max(1, min(len(os.sched_getaffinity(0)) + more, memory // ROOM))

@@ -58,8 +58,9 @@ def lay(folder, crates):
 def proved(folder, count, shows):
     """Runs rt ci in the folder, and gives its status."""
     began, done = time.monotonic(), set()
-    environment = {**os.environ, "RT_JOBS": str(lanes())}
-    command = [sys.executable, TOP / "tests" / "first_build.py"] if shows and lanes() > 2 else ["rt", "ci"]
+    is_first_build = shows and lanes() > 2
+    environment = {**os.environ, "RT_JOBS": str(lanes(more=1 if is_first_build else 0))}
+    command = [sys.executable, TOP / "tests" / "rt_ci.py", *(["--first-build"] if is_first_build else [])]
     with subprocess.Popen(command, cwd=folder, env=environment, stdin=subprocess.DEVNULL, stdout=subprocess.PIPE, text=True) as gate:
         for line in gate.stdout:
             print(line, end="", flush=True)

@@ -6,20 +6,28 @@ each crate took, in seconds: its proof, its tests and its edits, the longest cra
 out the work, and the sum in minutes against the budget. Processes that end between two samples are seen up to the last one,
 so the sum is a little less than what the gate took. The last line is '1 passed, 0 failed', or '0 passed, 1 failed' where the
 sum is above the budget by more than a fifth.
+
+The budget is in minutes of a processor as fast as where it was reckoned. A check that is always the same tells now and then how
+much slower this machine is, beside the gate (tests/yardstick.py), and the budget is that much longer here.
 """
 
 import os
 import re
+import statistics
 import sys
+import threading
 import time
 from collections import defaultdict
 from pathlib import Path
 
+from yardstick import slowness
+
 SECONDS = 2
+# How long to wait between two looks at how slow the machine is.
+BETWEEN = 300
 # Processor minutes for all proofs, tests and edits, and how much more fails the report.
-# (230 for all before the live book, 25 for that: gd_opening, gd_serving, gd_live, gd_live_text, gasday_live and gd_live_tests; and
-# 20 more until gasday_live, whose proof takes 11, is as cheap as a crate has to be)
-BUDGET, MORE = 275, 1.2
+# (230 for all before the live book, and 25 for that: gd_opening, gd_serving, gd_live, gd_live_text, gasday_live and gd_live_tests)
+BUDGET, MORE = 255, 1.2
 TICK = os.sysconf("SC_CLK_TCK")
 EDIT = re.compile(r"/(?:rt-edit|gasday-edits)[\w-]*")
 KINDS = ("proof", "tests", "edits")
@@ -75,15 +83,35 @@ class Times:
         return sorted(seconds.items(), key=lambda item: -sum(item[1].values()))
 
 
+class Pace:
+    """How slow the machine is while the gate runs, looked at now and then."""
+
+    def __init__(self):
+        self.seen, self.ended = [], threading.Event()
+        self.looks = threading.Thread(target=self.look, daemon=True)
+        self.looks.start()
+
+    def look(self):
+        while not self.ended.is_set():
+            self.seen.append(slowness())
+            self.ended.wait(BETWEEN)
+
+    def share(self):
+        """By how much a budget is longer here: by nothing where the machine is as fast, or could never be told."""
+        self.ended.set()
+        self.looks.join()
+        return max(1, statistics.fmean([it for it in self.seen if it] or [1]))
+
+
 def main():
     if len(sys.argv) != 3:
         print(__doc__.strip())
         return 2
-    times, stop = Times(os.path.realpath(sys.argv[1])), Path(sys.argv[2])
+    times, stop, pace = Times(os.path.realpath(sys.argv[1])), Path(sys.argv[2]), Pace()
     while not stop.exists():
         times.sample()
         time.sleep(SECONDS)
-    rows = times.rows()
+    rows, slower = times.rows(), pace.share()
     for crate, taken in rows:
         if crate != SCRIPTS:
             print(f"{crate}: proof {taken['proof']:.0f} s, tests {taken['tests']:.0f} s, edits {taken['edits']:.0f} s")
@@ -91,8 +119,8 @@ def main():
     sums = [sum(taken[kind] for crate, taken in rows if crate != SCRIPTS) / 60 for kind in KINDS]
     whole = sum(sums) + scripts
     print(f"all: proof {sums[0]:.1f} min, tests {sums[1]:.1f} min, edits {sums[2]:.1f} min, scripts {scripts:.1f} min: "
-          f"{whole:.1f} min of {BUDGET}")
-    is_within = whole <= MORE * BUDGET
+          f"{whole:.1f} min, {whole / slower:.1f} of {BUDGET} where a check takes {slower:.2f} times as long as there")
+    is_within = whole <= MORE * BUDGET * slower
     print(f"{int(is_within)} passed, {int(not is_within)} failed")
     return 0 if is_within else 1
 

@@ -1,10 +1,24 @@
 """The toolchain's own script as a module."""
 
+import functools
 import importlib.machinery
 import importlib.util
 import os
 import shutil
 import sys
+
+
+def remembered(method):
+    """A crate's method that asks all crates below along every path to them, a hundred thousand for some: its answer is kept."""
+    name = f"_remembered_{method.__name__}"
+
+    @functools.wraps(method)
+    def asked(crate):
+        if name not in vars(crate):
+            setattr(crate, name, method(crate))
+        return getattr(crate, name)
+
+    return asked
 
 
 def toolchain():
@@ -15,4 +29,5 @@ def toolchain():
     sys.dont_write_bytecode = True
     loader.exec_module(module)
     module.rtlib.Crate = module.Crate
+    module.Crate.below = remembered(module.Crate.below)
     return module

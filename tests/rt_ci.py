@@ -1,0 +1,98 @@
+"""rt_ci.py [--first-build]
+
+Runs `rt ci` in the folder where it is called, as the command itself does, but that what it sums and asks of all crates below a
+crate, along every path to them, is kept: the sums alone took more than ten minutes of a processor.
+
+With --first-build the order of its work is another: who builds the program waits for the longest chain of crates, each of which
+stands on the one before, while processors idle at its end. So a check has the lower a priority, the shorter the longest chain of
+its crate is; the crates of each chain that is nearly as long as the longest are checked with two jobs, and a program with four,
+which takes more processor time in all, and less by the clock; and both compilers build the program at the same time.
+"""
+
+import os
+import sys
+import threading
+from concurrent.futures import ThreadPoolExecutor
+
+from toolchain import remembered, toolchain
+
+# What a check costs beside its crate's lines, as so many lines: it loads all libraries below, and writes its own.
+EACH = 560
+# From what share of the longest chain on a crate is checked with two jobs.
+NEARLY = 0.95
+# How much lower the priority of a check is for each hundredth by which its chain is shorter, and at most.
+STEEP, LOWEST = 0.6, 15
+
+
+def shares(tasks):
+    """How long the longest chain of proofs is on which a proof stands, of the longest of all, for each. A task comes behind those
+    that it waits for, which are its first part; its lines are the second."""
+    proofs = {key: (task[0], EACH + task[1]) for key, task in tasks.items() if key[1] == "proof"}
+    before, behind = {}, dict.fromkeys(proofs, 0)
+    for key, (waits, lines) in proofs.items():
+        before[key] = lines + max((before[it] for it in waits), default=0)
+    for key in reversed(proofs):
+        waits, lines = proofs[key]
+        behind[key] += lines
+        for it in waits:
+            behind[it] = max(behind[it], behind[key])
+    longest = max(before.values(), default=1)
+    return {key: (before[key] + behind[key] - lines) / longest for key, (_, lines) in proofs.items()}
+
+
+def niceness(share):
+    """That of the check of a crate whose longest chain is such a share of the longest."""
+    return min(LOWEST, int(100 * STEEP * (1 - share)))
+
+
+def at_priority(lower, call, *given):
+    """What a call gives in a thread of its own, whose lower priority all that it starts has too."""
+    def lowered():
+        now = os.getpriority(os.PRIO_PROCESS, 0)
+        os.setpriority(os.PRIO_PROCESS, threading.get_native_id(), min(19, now + lower))
+        return call(*given)
+
+    with ThreadPoolExecutor(1) as pool:
+        return pool.submit(lowered).result()
+
+
+class Ordered:
+    """The toolchain's own steps in this order of work."""
+
+    def __init__(self, rt):
+        self.pool, self.in_lanes, self.compile_by = ThreadPoolExecutor(1), rt.in_lanes, rt.Crate.compile_by
+        self.others = {}
+
+    def run_all(self, tasks):
+        """All tasks, those on long chains before the others."""
+        share, last = shares(tasks), [*tasks][-1][0]
+
+        def ordered(key, task):
+            part = share.get(key, 0)
+            jobs = 4 if key[0] == last else 2 if part >= NEARLY else 1
+            return (task[0], EACH + task[1], task[2], lambda given, _: at_priority(niceness(part), task[3], given, jobs))
+
+        return self.in_lanes({key: ordered(key, task) for key, task in tasks.items()})
+
+    def compile_both(self, crate, backend, words, to):
+        """The toolchain asks for LLVM's program, and behind that for the other compiler's, which is begun with the first."""
+        if backend == "llvm":
+            self.others[crate.name] = self.pool.submit(self.compile_by, crate, "rattle", words, to)
+            return self.compile_by(crate, backend, words, to)
+        return self.others[crate.name].result()
+
+
+def main():
+    rt = toolchain()
+    rt.Crate.stamp = remembered(rt.Crate.stamp)
+    if "--first-build" in sys.argv:
+        ordered = Ordered(rt)
+        rt.in_lanes = ordered.run_all
+        rt.Crate.compile_by = lambda crate, *given: ordered.compile_both(crate, *given)
+    return rt.where_disk_lasts(rt.ci, False)
+
+
+if __name__ == "__main__":
+    status = main()
+    sys.stdout.flush()
+    sys.exit(status)
