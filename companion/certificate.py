@@ -7,12 +7,13 @@ Checks an answer to a question of `gasday` by the rules of docs/CERTIFICATES.md,
 QUESTION is a text of `segment`, `point`, `pool`, `question`, `capacity` and `line` rows. ANSWER holds `sched` and `price`
 rows, which are to show the schedule best, or `inside` rows, which are to be a cut; its other rows are not looked at. What is
 printed is that the answer holds, or the first thing that is wrong. The exit status is 0 where it holds, 1 where it doesn't,
-and 2 where a file can't be read as such a text.
+and 2 where a file can't be read as such a text, or the verdict can't be written.
 
 No route is walked. The pipeline is a tree: gas passes a segment in one direction only, so its load is what enters less what
 leaves beyond it, and what a dekatherm pays on its way is the difference of two sums of prices from the root.
 """
 
+import contextlib
 import csv
 import io
 import sys
@@ -360,21 +361,34 @@ def text_in(path: str) -> str:
         return file.read()
 
 
-def main() -> int:
-    if len(sys.argv) != 3:
-        print(__doc__.strip())
-        return 2
+def told_of(paths: Sequence[str]) -> tuple[int, str]:
+    """The exit status, and what is printed."""
+    if len(paths) != 2:
+        return 2, __doc__.strip()
     try:
-        question_text, answer_text = map(text_in, sys.argv[1:])
+        question_text, answer_text = map(text_in, paths)
         question = Question(question_text)
-        print(f"holds: {verdict_of(question, Answer(answer_text, question))}")
+        return 0, f"holds: {verdict_of(question, Answer(answer_text, question))}"
     except (OSError, UnicodeError, Unreadable) as error:
-        print(f"unreadable: {error}")
-        return 2
+        return 2, f"unreadable: {error}"
     except Wrong as wrong:
-        print(f"wrong: {wrong.words}")
-        return 1
-    return 0
+        return 1, f"wrong: {wrong.words}"
+
+
+def main() -> int:
+    """A verdict counts only once it is written, so that a full disk is not taken for a wrong answer."""
+    try:
+        status, words = told_of(sys.argv[1:])
+        with open(1, "w", closefd=False) as out:
+            print(words, file=out)
+        return status
+    except KeyboardInterrupt:
+        why = "stopped before the end"
+    except OSError as error:
+        why = f"standard output can't be written: {error.strerror}"
+    with contextlib.suppress(OSError), open(2, "w", closefd=False) as told:
+        print(f"certificate.py: {why}", file=told)
+    return 2
 
 
 if __name__ == "__main__":

@@ -10,6 +10,7 @@ from contextlib import contextmanager
 from types import FrameType
 from typing import TextIO
 
+from gasday_report.ending import ends_in_order
 from gasday_report.texts import Fault, read_input
 from gasday_report.words import counted
 
@@ -142,6 +143,7 @@ def ended_in_order() -> Iterator[None]:
         signal.signal(signal.SIGTERM, before)
 
 
+@ends_in_order("gasday-fleet")
 def main(words: Sequence[str] | None = None) -> int:
     options = options_of(words)
     try:
@@ -151,15 +153,10 @@ def main(words: Sequence[str] | None = None) -> int:
     except Impossible as impossible:
         tell(str(impossible))
         return 1
-    except BrokenPipeError:
-        os.dup2(os.open(os.devnull, os.O_WRONLY), sys.stdout.fileno())
-        return 2
     except (Fault, Died, Stopped) as fault:
         tell(str(fault))
-    except OSError as error:
-        tell(f"{error.filename or 'the output'} can't be read or written: {error.strerror or error}")
-    except KeyboardInterrupt:
-        tell("stopped before the end")
+    except OSError:
+        raise
     except Exception as error:  # which nobody has foreseen
         tell(f"{type(error).__name__}: {error}")
     return 2

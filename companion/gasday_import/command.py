@@ -6,6 +6,8 @@ import sys
 from collections.abc import Iterable, Sequence
 from pathlib import Path
 
+from gasday_report.ending import ends_in_order
+
 from .fields import marks_of
 from .log import Log
 from .mending import mend
@@ -54,6 +56,7 @@ def options_of(words: Sequence[str] | None) -> argparse.Namespace:
     return parser.parse_args(words)
 
 
+@ends_in_order("gasday-import")
 def main(words: Sequence[str] | None = None) -> int:
     """Does what the words of the command line ask for."""
     options, log = options_of(words), Log()
@@ -69,7 +72,7 @@ def main(words: Sequence[str] | None = None) -> int:
             return 1
         with open(options.output or 1, "wb") as file:  # sys.stdout may be without a buffer, and write a part alone
             file.write(data)
-    except (OSError, UnicodeError) as error:
+    except UnicodeError as error:
         sys.stderr.write(f"gasday-import: {error}\n")
         return 2
     return 0

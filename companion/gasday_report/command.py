@@ -2,13 +2,13 @@
 
 import argparse
 import io
-import os
 import sys
 from collections.abc import Sequence
 from typing import TextIO
 
 from . import csv_format, html_format, json_format, text_format
 from .day import day_of, day_verdict
+from .ending import ends_in_order
 from .facts import facts_of
 from .moments import Clock
 from .report import Report
@@ -94,6 +94,7 @@ def print_report(report: Report, arguments: argparse.Namespace, out: TextIO) -> 
         report, out)
 
 
+@ends_in_order("gasday-report")
 def main(words: Sequence[str] | None = None) -> int:
     arguments = arguments_of(words)
     try:
@@ -103,9 +104,5 @@ def main(words: Sequence[str] | None = None) -> int:
         return 2
     out = io.StringIO()
     print_report(report, arguments, out)
-    try:
-        sys.stdout.write(out.getvalue())
-        sys.stdout.flush()
-    except BrokenPipeError:
-        os.dup2(os.open(os.devnull, os.O_WRONLY), sys.stdout.fileno())
+    sys.stdout.write(out.getvalue())
     return 0 if report.passed() else 1
