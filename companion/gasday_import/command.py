@@ -2,39 +2,62 @@
 
 import argparse
 import gc
+import os
+import shutil
 import sys
-from collections.abc import Iterable, Sequence
+from collections.abc import Iterable, Iterator, Sequence
 from pathlib import Path
 
 from gasday_report.ending import ends_in_order
+from gasday_report.texts import Fault
 
+from .confirmations import find_lines
 from .fields import marks_of
 from .log import Log
-from .mending import mend
+from .mending import Left, mend
+from .naming import Names, give_names, names_in
 from .ordering import put_in_order
-from .reading import Source, sheet_of
+from .reading import Sheet, Source, sheet_of
+from .rows import Row, written
+from .times import make_moments
+from .workbook import sources_in
 
 DESCRIPTION = """\
 Makes a text that `gasday` reads out of a spreadsheet's CSV exports: of each FILE in turn, or of standard input.
-docs/IMPORT.md says what is repaired, and how. Each repair is told on standard error with its file and line, and so is
-what could not be repaired. Then, and with --strict where anything is to be repaired, nothing is written.
+docs/IMPORT.md says what is repaired, and how. Standard error has the repairs by their kinds, each by itself that people
+have to look at, and each with its file and line that could not be repaired. Then, and with --strict where anything is to be
+repaired, nothing is written.
+
+Nothing of this is proved, and no rule of the tariff is in it: what it can't decide it tells.
 
 Exit status: 0 the text is written, 1 something could not be repaired or --strict found repairs, 2 usage, reading or
 writing."""
 
 
-def imported(sources: Iterable[Source], log: Log) -> bytes:
-    """The bytes of the text that the sources are."""
-    rows, is_ended = [], False
-    for source in sources:
-        sheet = sheet_of(source, log)
+def rows_in(sheets: Iterable[Sheet], left: Left, log: Log) -> Iterator[Row]:
+    """The rows of all sheets, each repaired by itself."""
+    for sheet in sheets:
         marks = marks_of(sheet)
         for row in sheet.rows:
             if row.fields:
-                mend(row, marks, log)
-        rows += sheet.rows
-        is_ended = sheet.is_ended
+                mend(row, marks, left, log)
+        yield from sheet.rows
+
+
+def imported(sources: Sequence[Source], names: Names | None, program: str | None, log: Log) -> bytes:
+    """The bytes of the text that the sources are."""
+    log.sources = [source.name for source in sources]
+    sheets = [sheet_of(source, log) for source in sources]
+    left = Left(are_names_left=names is not None)
+    rows = list(rows_in(sheets, left, log))
+    if names:
+        give_names(names, left.names, rows, log)
     rows = put_in_order(rows, log)
+    make_moments(rows, log)
+    for row in [*(row for row, _ in left.names), *left.times]:
+        row.text = written(list(row.fields))
+    find_lines(rows, left.lines, program, log)
+    is_ended = bool(sheets) and sheets[-1].is_ended
     end = "\n" if rows and (log.repairs or is_ended) else ""
     return ("\n".join(row.text for row in rows) + end).encode("utf-8")
 
@@ -47,32 +70,68 @@ def read(name: str) -> Source:
         return Source("standard input", file.read())
 
 
+def write(path: str, data: bytes) -> None:
+    """Writes a file that is whole or as it was before; into what is no plain file it is written as it comes."""
+    if os.path.exists(path) and not os.path.isfile(path):
+        Path(path).write_bytes(data)
+        return
+    place = os.path.realpath(path)
+    part = f"{place}.part"
+    try:
+        with open(part, "wb") as file:
+            file.write(data)
+            file.flush()
+            os.fsync(file.fileno())
+        if os.path.exists(place):
+            shutil.copymode(place, part)
+        os.replace(part, place)
+    except BaseException:
+        Path(part).unlink(missing_ok=True)
+        raise
+
+
 def options_of(words: Sequence[str] | None) -> argparse.Namespace:
     parser = argparse.ArgumentParser(prog="gasday-import", description=DESCRIPTION,
                                      formatter_class=argparse.RawDescriptionHelpFormatter)
     parser.add_argument("--strict", action="store_true", help="refuse in place of repairing")
+    parser.add_argument("--each", action="store_true", help="tell each repair with its line")
+    parser.add_argument("--names", metavar="FILE", help="a table of names for what is none; new ones are added to it")
+    parser.add_argument("--sheet", metavar="NAME", action="append", default=[],
+                        help="only this sheet of workbooks; may be told several times")
+    parser.add_argument("--gasday", metavar="PROGRAM", help="asked for the lines of confirmations by names; else the built one,"
+                                                            " else the one on the PATH")
     parser.add_argument("--output", metavar="FILE", help="write to FILE in place of standard output")
-    parser.add_argument("files", nargs="*", metavar="FILE", default=["-"], help="a CSV export; - is standard input")
+    parser.add_argument("files", nargs="*", metavar="FILE", default=["-"],
+                        help="a CSV export, or a workbook; - is standard input")
     return parser.parse_args(words)
+
+
+def run(options: argparse.Namespace) -> int:
+    log = Log(options.each)
+    names = names_in(options.names) if options.names else None
+    sources = [source for name in options.files for source in sources_in(read(name), options.sheet, log)]
+    data = imported(sources, names, options.gasday, log)
+    refused = log.errors > 0 or (options.strict and bool(log.repairs))
+    sys.stderr.write("".join(log.lines(refused)))
+    if refused:
+        return 1
+    if names and names.new:
+        write(names.path, names.whole())
+    if options.output:
+        write(options.output, data)
+    else:
+        with open(1, "wb") as file:  # sys.stdout may be without a buffer, and write a part alone
+            file.write(data)
+    return 0
 
 
 @ends_in_order("gasday-import")
 def main(words: Sequence[str] | None = None) -> int:
     """Does what the words of the command line ask for."""
-    options, log = options_of(words), Log()
+    options = options_of(words)
     gc.disable()  # of a million rows none holds itself
     try:
-        data = imported([read(name) for name in options.files], log)
-        refused = log.errors > 0 or (options.strict and log.repairs > 0)
-        if log.repairs or log.errors:
-            end = "; nothing is written" if refused else ""
-            log.told.append(f"gasday-import: {log.repairs} repairs, {log.errors} not repaired{end}\n")
-        sys.stderr.write("".join(log.told))
-        if refused:
-            return 1
-        with open(options.output or 1, "wb") as file:  # sys.stdout may be without a buffer, and write a part alone
-            file.write(data)
-    except UnicodeError as error:
+        return run(options)
+    except (Fault, UnicodeError) as error:
         sys.stderr.write(f"gasday-import: {error}\n")
         return 2
-    return 0

@@ -4,22 +4,27 @@ import functools
 import re
 from dataclasses import dataclass
 
-from .forms import NUMBERS, TEXTS, is_number
+from .forms import CALLED, NUMBERS, TEXTS, is_name, is_number
 from .reading import Sheet
+from .times import LOCAL
 
 NAME = re.compile(r"[A-Z0-9-]{1,16}")
 DIGITS, NO_DIGIT, MARK = re.compile("[0-9]{1,18}"), re.compile("[^0-9]"), re.compile("[.,]")
 GROUPED = re.compile(r"([1-9][0-9]{0,2})((?:([ \u00a0\u2009\u202f'\u2019.,])[0-9]{3})(?:\3[0-9]{3})*)")
 # The mark that groups where no number tells, by what separates fields.
 GROUPING = {",": ",", ";": "."}
+NO_TIME = "is no whole number, and no local time such as 2026-12-09 12:30"
+NO_NAME = "is no name: 1 to 16 of A to Z, 0 to 9 and - (--names FILE gives it one)"
 
 
 @dataclass(frozen=True, slots=True)
 class Mended:
-    """A field as it should be; or else none, and why it can't be."""
+    """A field as it should be, and the kind of its repair; or else none, and why it can't be."""
 
     field: str | None
     why: str = ""
+    doubt: str = ""  # why people have to look at it
+    is_left: bool = False  # until all rows are read
 
 
 def marks_of(sheet: Sheet) -> frozenset[str]:
@@ -48,10 +53,22 @@ def number_in(field: str, marks: frozenset[str]) -> Mended:
     if not match:
         return Mended(None, "is no whole number")
     mark = match.group(3)
-    if mark in ".," and match.group(2).count(mark) == 1 and mark not in marks:
+    is_single = mark in ".," and match.group(2).count(mark) == 1
+    if is_single and mark not in marks:
         return Mended(None, f"is ambiguous: {mark!r} may group thousands or be a decimal mark")
     digits = NO_DIGIT.sub("", size)
-    return Mended(sign + digits) if DIGITS.fullmatch(digits) else Mended(None, "has more than 18 digits")
+    if not DIGITS.fullmatch(digits):
+        return Mended(None, "has more than 18 digits")
+    return Mended(sign + digits, "groups taken out of numbers", f"{mark!r} may be a decimal mark" if is_single else "")
+
+
+def word_in(title: str, field: str) -> Mended:
+    """One of the words that a field takes, however it is written or called."""
+    word, words = field.lower(), title.split("|")
+    called = CALLED.get(title, {}).get(word)
+    if called:
+        return Mended(called, "words called otherwise")
+    return Mended(word, "words made lower case") if word in words else Mended(None, f"is none of {', '.join(words)}")
 
 
 @functools.lru_cache(maxsize=2**16)
@@ -60,10 +77,11 @@ def mended_field(title: str, field: str, marks: frozenset[str]) -> Mended:
     if field == "" or title in TEXTS:
         return Mended(field)
     if is_number(title):
-        return Mended(None, "is below zero") if title in NUMBERS and field[0] == "-" else number_in(field, marks)
-    if not title.isupper():
-        word = field.lower()
-        words = title.split("|")
-        return Mended(word) if word in words else Mended(None, f"is none of {', '.join(words)}")
+        if title == "MOMENT" and LOCAL.fullmatch(field):
+            return Mended(field, is_left=True)
+        mended = Mended(None, "is below zero") if title in NUMBERS and field[0] == "-" else number_in(field, marks)
+        return Mended(None, NO_TIME) if title == "MOMENT" and mended.why == "is no whole number" else mended
+    if not is_name(title):
+        return word_in(title, field)
     name = field.upper() if field.isascii() else field
-    return Mended(name) if NAME.fullmatch(name) else Mended(None, "is no name: 1 to 16 of A to Z, 0 to 9 and -")
+    return Mended(name, "names made upper case") if NAME.fullmatch(name) else Mended(None, NO_NAME)

@@ -4,6 +4,7 @@ import re
 from dataclasses import dataclass
 
 FIELDS = 8
+Form = tuple[str, ...]
 
 # The kinds of each stage, with the titles of the fields behind them. A title is a word in capitals, or the words that its
 # field takes.
@@ -32,6 +33,11 @@ STAGES = (
 )
 PIPELINE, EVENT = 1, len(STAGES)
 INTERRUPTIBLE = ("NAME", "SHIPPER", "firm|interruptible", "QUANTITY", "BAND")
+# A confirmation that names its line by what it was nominated with. It has a ninth field, and no text of `gasday` has it.
+NAMED_RESPOND = ("MOMENT", "PARTY", "CONTRACT", "PACKAGE", "ORIGIN", "DEST", "origin|dest", "QUANTITY")
+
+# What else a word may be called; it is written as `gasday` has it.
+CALLED = {"origin|dest": {"receipt": "origin", "delivery": "dest", "destination": "dest"}}
 
 NUMBERS = {"CAPACITY", "QUANTITY", "CYCLE", "ROUND", "CLASS", "FLOOR", "CEILING", "LINE", "LEVEL", "MOMENT", "SLOT", "BAND"}
 SIGNED, TEXTS = {"WORD", "SPREAD"}, {"DATE", "ZONE"}
@@ -44,6 +50,10 @@ class Kind:
     stage: int  # from 1
     titles: tuple[str, ...]
     clean: re.Pattern[str]  # a row where nothing is to be repaired, and perhaps a line end
+
+
+def is_name(title: str) -> bool:
+    return title.isupper() and not is_number(title) and title not in TEXTS
 
 
 def is_number(title: str) -> bool:
@@ -77,3 +87,9 @@ def kinds_of(stage: int, forms: dict[str, str]) -> dict[str, Kind]:
 
 
 KINDS = {kind: what for stage, forms in enumerate(STAGES, 1) for kind, what in kinds_of(stage, forms).items()}
+
+
+def forms_of(kind: str) -> tuple[Form, ...]:
+    """The forms in which the rows of a kind may come, the table's first."""
+    more = {"contract": (INTERRUPTIBLE,), "respond": (NAMED_RESPOND,)}
+    return KINDS[kind].titles, *more.get(kind, ())

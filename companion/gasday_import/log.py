@@ -1,5 +1,6 @@
 """What is told on standard error."""
 
+from collections import Counter
 from dataclasses import dataclass, field
 
 
@@ -18,18 +19,41 @@ class Place:
 class Log:
     """What is told, and how much of it was repaired or could not be."""
 
-    told: list[str] = field(default_factory=list)
-    repairs: int = 0
+    is_each_told: bool = False  # not only the doubtful ones
+    notes: list[str] = field(default_factory=list)
+    told: list[tuple[Place, str]] = field(default_factory=list)
+    sources: list[str] = field(default_factory=list)  # in the order in which they are told of
+    repairs: Counter[str] = field(default_factory=Counter)
+    first: dict[str, Place] = field(default_factory=dict)
     errors: int = 0
 
     def note(self, source: str, what: str) -> None:
         """Tells of a whole source what is no repair."""
-        self.told.append(f"{source}: {what}\n")
+        self.notes.append(f"{source}: {what}\n")
 
-    def repair(self, place: Place, what: str) -> None:
-        self.repairs += 1
-        self.told.append(f"{place}: {what}\n")
+    def repair(self, place: Place, kind: str, what: str, is_doubtful: bool = False) -> None:
+        """Counts a repair among those of its kind. One that people have to look at is told by itself."""
+        self.repairs[kind] += 1
+        if self.repairs[kind] == 1:
+            self.first[kind] = place
+        if is_doubtful or self.is_each_told:
+            self.told.append((place, what))
 
     def error(self, place: Place, what: str) -> None:
         self.errors += 1
-        self.told.append(f"{place}: error: {what}\n")
+        self.told.append((place, f"error: {what}"))
+
+    def by_line(self) -> list[str]:
+        order = {name: at for at, name in enumerate(dict.fromkeys([*self.sources, *(place.source for place, _ in self.told)]))}
+        told = sorted(self.told, key=lambda one: (order[one[0].source], one[0].line))
+        return [f"{place}: {what}\n" for place, what in told]
+
+    def lines(self, is_refused: bool) -> list[str]:
+        """All that is told: the repairs by their kinds first, the most frequent before the others."""
+        if not self.repairs and not self.errors:
+            return self.notes
+        end = "; nothing is written" if is_refused else ""
+        head = f"gasday-import: {self.repairs.total()} repairs, {self.errors} not repaired{end}\n"
+        kinds = [f"{count:9} {kind}, {'the first ' if count > 1 else ''}at {self.first[kind]}\n"
+                 for kind, count in self.repairs.most_common()]
+        return [*self.notes, head, *kinds, *self.by_line()]

@@ -86,7 +86,7 @@ def tell_moved(order: list[Row], log: Log) -> None:
     for row in order:
         if row.at not in stay:
             behind = f"behind line {before.line} of {before.source}" if before else "to the front"
-            log.repair(row.place, f"{row.kind} row moved {behind}")
+            log.repair(row.place, "rows moved", f"{row.kind} row moved {behind}")
         before = row
 
 

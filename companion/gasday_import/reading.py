@@ -7,6 +7,7 @@ import re
 from dataclasses import dataclass
 
 from .forms import KINDS
+from .headers import Header, Taken, is_header
 from .log import Log, Place
 from .rows import Row
 
@@ -20,6 +21,7 @@ class Source:
 
     name: str
     data: bytes
+    is_sheet: bool = False  # of a workbook, whose cells are written with commas
 
 
 @dataclass(slots=True)
@@ -46,13 +48,13 @@ def decoded(source: Source, log: Log) -> str:
         raise UnicodeError(f"{source.name} is UTF-16; export it as UTF-8")
     if data.startswith(b"\xef\xbb\xbf"):
         data = data[3:]
-        log.repair(Place(source.name, 1), "byte order mark dropped")
+        log.repair(Place(source.name, 1), "byte order marks dropped", "byte order mark dropped")
     try:
         return data.decode("utf-8")
     except UnicodeDecodeError as error:
         before = data[: error.start].decode("utf-8")
         line = len(re.findall("\r\n|\r|\n", before)) + 1
-        log.repair(Place(source.name, line), "no UTF-8: the file is read as Latin-1")
+        log.repair(Place(source.name, line), "files read as Latin-1", "no UTF-8: the file is read as Latin-1", is_doubtful=True)
         return data.decode("latin-1")
 
 
@@ -62,13 +64,16 @@ def separator_of(name: str, lines: list[str], log: Log) -> str:
     first = next((line for line in lines if line.strip()), "")
     separator = found.group(1) if found else max(SEPARATORS, key=first.count)
     if separator != ",":
-        log.repair(Place(name, 1), f"fields separated by {SEPARATORS[separator]}: written with commas")
+        word = SEPARATORS[separator]
+        log.repair(Place(name, 1), f"files with {word}", f"fields separated by {word}: written with commas")
     return separator
 
 
 def is_title(fields: tuple[str, ...]) -> bool:
     """Whether a file's first row is a header: its first field has no digit and isn't like a kind, and no other begins
-    with a digit."""
+    with a digit; or else a field says that the kinds of rows are below it."""
+    if is_header(fields):
+        return True
     if re.search("[0-9]", fields[0]) or any(field.strip()[:1].isdigit() for field in fields):
         return False
     return not difflib.get_close_matches(fields[0].strip().lower(), KINDS, 1, 0.75)
@@ -77,26 +82,27 @@ def is_title(fields: tuple[str, ...]) -> bool:
 def is_dropped(place: Place, fields: tuple[str, ...], is_first: bool, log: Log) -> bool:
     """Whether a record is no row, and is dropped."""
     if not any(field.strip() for field in fields):
-        what = "empty row"
+        what, kind = "empty row", "empty rows"
     elif fields[0].lstrip().startswith("#"):
-        what = "row that begins with #"
+        what, kind = "row that begins with #", "rows that begin with #"
     elif is_first and is_title(fields):
-        what = "header row"
+        what, kind = "header row", "header rows"
     else:
         return False
-    log.repair(place, f"{what} dropped")
+    log.repair(place, f"{kind} dropped", f"{what} dropped")
     return True
 
 
 class Reader:
     """Goes through the lines of a source; what is no row is dropped, and a row of no kind told."""
 
-    def __init__(self, name: str, text: str, log: Log) -> None:
-        self.name, self.log = name, log
+    def __init__(self, source: Source, text: str, log: Log) -> None:
+        self.name, self.log = source.name, log
         self.lines = list(io.StringIO(text, newline=""))
         if "\r" in text:
-            log.note(name, "line ends are CRLF or CR: written as LF, which is no repair")
-        self.separator = separator_of(name, self.lines, log)
+            log.note(self.name, "line ends are CRLF or CR: written as LF, which is no repair")
+        self.separator = "," if source.is_sheet else separator_of(self.name, self.lines, log)
+        self.header: Header | None = None
         self.is_first = True
 
     def record_at(self, at: int) -> Record:
@@ -114,15 +120,27 @@ class Reader:
     def row_of(self, record: Record, at: int) -> Row | None:
         """The row that a record at a line is, if it is one."""
         place = Place(self.name, at + 1)
-        if not record.fields or is_dropped(place, record.fields, self.is_first, self.log):
+        if not record.fields:
+            return None
+        if is_dropped(place, record.fields, self.is_first, self.log):
+            if self.is_first and any(record.fields) and not record.fields[0].lstrip().startswith("#"):
+                self.header, self.is_first = Header(place, record.fields, self.log), False
             return None
         self.is_first = False
-        kind = record.fields[0].strip().lower()
+        header = self.header
+        kind_at = header.kind_at if header else 0
+        word = record.fields[kind_at] if kind_at < len(record.fields) else ""
+        kind = word.strip().lower()
         if kind not in KINDS:
-            self.log.error(place, f"field 1 ({record.fields[0]!r}) is no kind of row")
+            label = header.label(kind_at) if header and kind_at else "field 1"
+            self.log.error(place, f"{label} ({word!r}) is no kind of row")
+            return None
+        taken = header.taken(kind, record.fields, at + 1) if header else Taken(record.fields)
+        if not taken:
             return None
         raw = "".join(self.lines[at : at + record.lines]).rstrip("\r\n")
-        return Row(self.name, at + 1, kind, raw if self.separator == "," else "", record.fields)
+        is_own = self.separator == "," and taken.fields == record.fields
+        return Row(self.name, at + 1, kind, raw if is_own else "", taken.fields, taken.labels)
 
     def rows(self) -> list[Row]:
         """All rows. A line with commas where nothing is to be repaired is a row as it stands, and its fields need no look."""
@@ -132,7 +150,7 @@ class Reader:
             line = lines[at]
             kind = line.split(",", 1)[0]
             known = KINDS.get(kind) if may_be_clean else None
-            if known and known.clean.fullmatch(line):
+            if known and known.clean.fullmatch(line) and (self.header is None or self.header.is_plain(kind)):
                 at, self.is_first = at + 1, False
                 rows.append(Row(self.name, at, kind, line.rstrip("\r\n")))
                 continue
@@ -147,5 +165,5 @@ class Reader:
 def sheet_of(source: Source, log: Log) -> Sheet:
     """The rows of a source, still as they stand there."""
     text = decoded(source, log)
-    reader = Reader(source.name, text, log)
-    return Sheet(reader.rows(), reader.separator, text.endswith(("\n", "\r")))
+    reader = Reader(source, text, log)
+    return Sheet(reader.rows(), "" if source.is_sheet else reader.separator, text.endswith(("\n", "\r")))

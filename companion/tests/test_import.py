@@ -28,7 +28,7 @@ def run(data: str | bytes, *words: str) -> tuple[bytes, str, int]:
 class Importing(unittest.TestCase):
     def imports(self, data: str | bytes, want: str, *told: str) -> str:
         """The text is written, with status 0, and each of these is told."""
-        out, err, status = run(data)
+        out, err, status = run(data, "--each")
         self.assertEqual((out.decode(), status), (want, 0), err)
         for line in told:
             self.assertIn("standard input:" + line + "\n", err)
@@ -36,7 +36,7 @@ class Importing(unittest.TestCase):
 
     def refuses(self, data: str | bytes, *told: str) -> str:
         """Nothing is written, with status 1, and each of these is told."""
-        out, err, status = run(data)
+        out, err, status = run(data, "--each")
         self.assertEqual((out, status), (b"", 1), err)
         for line in told:
             self.assertIn("standard input:" + line, err)
@@ -94,7 +94,7 @@ class Files(Importing):
             first, second = Path(folder) / "-a b.csv", Path(folder) / "second.csv"
             first.write_text("Kind,Name,From,To,Capacity,,,\nsegment,S1,A,B,100,,,")
             second.write_text("Kind;Name\npool;P1;A;OP\n")
-            out, err, status = run("", "--", str(first), str(second))
+            out, err, status = run("", "--each", "--", str(first), str(second))
         self.assertEqual((out, status), (b"segment,S1,A,B,100,,,\npool,P1,A,OP,,,,\n", 0))
         self.assertIn(f"{first}:1: header row dropped\n", err)
         self.assertIn(f"{second}:2: padded from 4 to 8 fields\n", err)

@@ -1,0 +1,99 @@
+"""Workbooks: what they are by their first bytes, and the sheets of one that `openpyxl` reads, where it is installed."""
+
+import csv
+import io
+import zipfile
+from collections.abc import Iterator, Sequence
+from datetime import date, datetime, timedelta
+from typing import Any
+
+from gasday_report.texts import Fault
+
+from .forms import FIELDS
+from .log import Log, Place
+from .reading import Source
+
+ZIP, OLD = b"PK\x03\x04", b"\xd0\xcf\x11\xe0\xa1\xb1\x1a\xe1"
+SAVE = "save each sheet as CSV (UTF-8)"
+INSTALL = "or install openpyxl: `apt-get install python3-openpyxl` does so for Debian's own Python, /usr/bin/python3"
+# Whole numbers up to here are exact in a workbook.
+EXACT = 10**15
+
+
+def kind_of(data: bytes) -> str:
+    """What a file is that is no text; nothing where it may be one."""
+    if data.startswith(OLD):
+        return "an old workbook (xls), or one with a password"
+    if not data.startswith(ZIP):
+        return ""
+    try:
+        names = zipfile.ZipFile(io.BytesIO(data)).namelist()
+    except zipfile.BadZipFile:
+        return "a damaged zip file, or workbook"
+    if "xl/workbook.xml" in names:
+        return "an Excel workbook (xlsx)"
+    if "xl/workbook.bin" in names:
+        return "a binary workbook (xlsb)"
+    return "a workbook (ods)" if "content.xml" in names else "a zip file"
+
+
+def sources_in(source: Source, only: Sequence[str], log: Log) -> list[Source]:
+    """The sheets of a workbook as sources, or a source that is a text by itself."""
+    kind = kind_of(source.data)
+    if not kind:
+        return [source]
+    if "xlsx" not in kind:
+        raise Fault(f"{source.name} is {kind}, which is not read: {SAVE}")
+    try:
+        import openpyxl
+    except ImportError:
+        raise Fault(f"{source.name} is {kind}, which is read only where openpyxl is installed: {SAVE}, {INSTALL}") from None
+    try:
+        values, formulas = (openpyxl.load_workbook(io.BytesIO(source.data), read_only=True, data_only=is_value)
+                            for is_value in (True, False))
+        missing = [name for name in only if name not in values.sheetnames]
+        if missing:
+            raise Fault(f"{source.name} has no sheet {missing[0]!r}: it has {', '.join(map(repr, values.sheetnames))}")
+        names = [name for name in values.sheetnames if not only or name in only]
+        return [sheet_source(f"{source.name}[{name}]", values[name], formulas[name], log) for name in names]
+    except (zipfile.BadZipFile, KeyError, ValueError, TypeError) as error:
+        raise Fault(f"{source.name} is {kind}, which openpyxl can't read: {error}; {SAVE}") from None
+
+
+def sheet_source(name: str, values: Any, formulas: Any, log: Log) -> Source:
+    """A sheet as a text with commas, a line for each of its rows."""
+    out = io.StringIO(newline="")
+    writer = csv.writer(out, lineterminator="\n")
+    for line, cells in enumerate(rows_of(name, values, formulas, log), 1):
+        while cells and not cells[-1]:
+            cells.pop()
+        writer.writerow(cells + [""] * (FIELDS - len(cells)))
+        if line == 1:
+            log.repair(Place(name, 1), "sheets of a workbook read", "a sheet of a workbook: written with commas")
+    return Source(name, out.getvalue().encode(), is_sheet=True)
+
+
+def rows_of(name: str, values: Any, formulas: Any, log: Log) -> Iterator[list[str]]:
+    for line, (cells, asked) in enumerate(zip(values.iter_rows(), formulas.iter_rows(), strict=True), 1):
+        for at, (cell, formula) in enumerate(zip(cells, asked, strict=True), 1):
+            if formula.data_type == "f" and cell.value is None:
+                log.error(Place(name, line), f"the formula in column {at} has no kept value: save the workbook once more")
+            elif cell.data_type == "e":
+                log.error(Place(name, line), f"column {at} has the fault {cell.value}")
+        yield [text_of(cell.value, str(cell.number_format or "")) for cell in cells]
+
+
+def text_of(value: object, form: str) -> str:
+    """A cell as a text has it. Numbers come as they are kept, whatever the sheet shows."""
+    if value is None:
+        return ""
+    if isinstance(value, float) and value.is_integer() and abs(value) < EXACT:
+        return str(int(value))
+    if isinstance(value, datetime):
+        clock = (value + timedelta(microseconds=500_000)).replace(microsecond=0)
+        if clock.time() == datetime.min.time() and "h" not in form.lower():
+            return clock.date().isoformat()
+        return clock.isoformat(" ") if clock.second else clock.isoformat(" ", "minutes")
+    if isinstance(value, date):
+        return value.isoformat()
+    return " ".join(value.splitlines()) if isinstance(value, str) else str(value)
