@@ -52,6 +52,7 @@ class Header:
     titles: tuple[str, ...]
     log: Log
     found: dict[tuple[str, Form], Columns] = field(default_factory=dict)
+    plain: dict[str, bool] = field(default_factory=dict)
     used: set[tuple[str, Form]] = field(default_factory=set)
     surplus: set[tuple[str, Form, int]] = field(default_factory=set)
 
@@ -106,8 +107,9 @@ class Header:
         forms = forms_of(kind)
         if kind != "respond":
             return forms
-        by_name = self.has(kind, "CONTRACT")
-        return forms[by_name and not self.has(kind, "LINE"):1 + by_name]
+        if not self.has(kind, "CONTRACT"):
+            return forms[:1]
+        return forms if self.has(kind, "LINE") else forms[1:]
 
     def form_of(self, kind: str, fields: tuple[str, ...]) -> Form:
         """The form of a row: what it says itself, where its kind has several."""
@@ -121,8 +123,10 @@ class Header:
 
     def is_plain(self, kind: str) -> bool:
         """Whether rows of a kind stand as they would without a header, whatever their form."""
-        return all(columns.is_plain and columns.taken is None and not columns.wrong and None not in columns.places
-                   for columns in (self.columns(kind, form) for form in self.forms(kind)))
+        if kind not in self.plain:
+            self.plain[kind] = all(columns.is_plain and columns.taken is None and not columns.wrong and None not in columns.places
+                                   for columns in (self.columns(kind, form) for form in self.forms(kind)))
+        return self.plain[kind]
 
     def taken(self, kind: str, fields: tuple[str, ...], line: int) -> Taken | None:
         """The fields of a row in their own order; none where the header can't be followed."""

@@ -11,6 +11,8 @@ from .headers import Header, Taken, is_header
 from .log import Log, Place
 from .rows import Row
 
+# What is no row, with how several are called.
+EMPTY, NOTE, HEADER = ("empty row", "empty rows"), ("row that begins with #", "rows that begin with #"), ("header row", "header rows")
 SEPARATORS = {",": "commas", ";": "semicolons", "\t": "tabs"}
 KIND_FIRST = re.compile(rf'\s*"?\s*(?:{"|".join(KINDS)}) *"? *([,;\t])', re.IGNORECASE)
 
@@ -79,18 +81,13 @@ def is_title(fields: tuple[str, ...]) -> bool:
     return not difflib.get_close_matches(fields[0].strip().lower(), KINDS, 1, 0.75)
 
 
-def is_dropped(place: Place, fields: tuple[str, ...], is_first: bool, log: Log) -> bool:
-    """Whether a record is no row, and is dropped."""
+def dropped(fields: tuple[str, ...], is_first: bool) -> tuple[str, str] | None:
+    """What a record is that is no row, and is dropped; none where it is one."""
     if not any(field.strip() for field in fields):
-        what, kind = "empty row", "empty rows"
-    elif fields[0].lstrip().startswith("#"):
-        what, kind = "row that begins with #", "rows that begin with #"
-    elif is_first and is_title(fields):
-        what, kind = "header row", "header rows"
-    else:
-        return False
-    log.repair(place, f"{kind} dropped", f"{what} dropped")
-    return True
+        return EMPTY
+    if fields[0].lstrip().startswith("#"):
+        return NOTE
+    return HEADER if is_first and is_title(fields) else None
 
 
 class Reader:
@@ -122,8 +119,10 @@ class Reader:
         place = Place(self.name, at + 1)
         if not record.fields:
             return None
-        if is_dropped(place, record.fields, self.is_first, self.log):
-            if self.is_first and any(record.fields) and not record.fields[0].lstrip().startswith("#"):
+        what = dropped(record.fields, self.is_first)
+        if what:
+            self.log.repair(place, f"{what[1]} dropped", f"{what[0]} dropped")
+            if what == HEADER:
                 self.header, self.is_first = Header(place, record.fields, self.log), False
             return None
         self.is_first = False

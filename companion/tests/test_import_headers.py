@@ -1,5 +1,7 @@
 """Tests of gasday-import's headers and of what it tells. What is wanted is worked out by hand from docs/IMPORT.md."""
 
+import csv
+import io
 import sys
 import unittest
 
@@ -7,13 +9,33 @@ from import_helpers import TOP, Importing
 
 sys.path.insert(0, str(TOP / "companion"))
 
-from gasday_import.forms import KINDS, forms_of  # noqa: E402 (the path comes first)
+from gasday_import.forms import INTERRUPTIBLE, KINDS, forms_of  # noqa: E402 (the path comes first)
 from gasday_import.titles import names_of  # noqa: E402
 
 AT_HEADER = "standard input:1: error: the header can't be followed"
 
 
+def wide_sheet(text: str, is_reversed: bool) -> str:
+    """A text as a sheet with a column for each field that any of its rows has, by their names, in another order."""
+    sheet = []
+    for kind, *fields in csv.reader(io.StringIO(text, newline="")):
+        form = INTERRUPTIBLE if kind == "contract" and fields[2] == "interruptible" else KINDS[kind].titles
+        sheet.append({"kind": kind, **{names_of(kind, title)[0]: cell for title, cell in zip(form, fields, strict=False)}})
+    columns = sorted({name for row in sheet for name in row}, reverse=is_reversed)
+    out = io.StringIO(newline="")
+    writer = csv.DictWriter(out, columns, restval="", delimiter=";", lineterminator="\n")
+    writer.writeheader()
+    writer.writerows(sheet)
+    return out.getvalue()
+
+
 class Followed(Importing):
+    def test_each_example_as_one_sheet_with_its_columns_in_another_order(self) -> None:
+        for example in sorted(set((TOP / "examples").rglob("*.csv")) - set((TOP / "examples").rglob("scenarios.csv"))):
+            for is_reversed in (False, True):
+                with self.subTest(example.name, is_reversed=is_reversed):
+                    self.imports(wide_sheet(example.read_text(), is_reversed), example.read_text())
+
     def test_from_and_to_the_other_way_round(self) -> None:
         self.imports("Kind,Name,To,From,Capacity\nsegment,S1,B,A,100\n", "segment,S1,A,B,100,,,\n",
                      told=('standard input:1: the columns of segment rows are "Name", "From", "To", "Capacity"\n',))
