@@ -109,9 +109,16 @@ def options_of(words: Sequence[str] | None) -> argparse.Namespace:
 def run(options: argparse.Namespace) -> int:
     log = Log(options.each)
     names = names_in(options.names) if options.names else None
-    sources = [source for name in options.files for source in sources_in(read(name), options.sheet, log)]
-    data = imported(sources, names, options.gasday, log)
+    try:
+        sources = [source for name in options.files for source in sources_in(read(name), options.sheet, log)]
+        data = imported(sources, names, options.gasday, log)
+    except Fault:
+        sys.stderr.write("".join(log.lines(is_refused=True)))
+        raise
     refused = log.errors > 0 or (options.strict and bool(log.repairs))
+    if names and names.new:
+        words = "and are added when all else is right" if refused else "and are added: look at them there"
+        log.note(names.path, f"{len(names.new)} names are new, {words}")
     sys.stderr.write("".join(log.lines(refused)))
     if refused:
         return 1

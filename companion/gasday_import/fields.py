@@ -27,7 +27,16 @@ class Mended:
     is_left: bool = False  # until all rows are read
 
 
-def marks_of(sheet: Sheet) -> frozenset[str]:
+@dataclass(frozen=True, slots=True)
+class Marks:
+    """Which of comma and point groups thousands where a number has it once, and whether a number of the file shows that it
+    does."""
+
+    groups: frozenset[str] = frozenset()
+    are_shown: bool = False
+
+
+def marks_of(sheet: Sheet) -> Marks:
     """Which of comma and point groups thousands where a number has it once: the one that another number of the file has
     twice, or else a comma between commas and a point between semicolons; none that is a decimal mark in the file."""
     groups: set[str] = set()
@@ -40,11 +49,12 @@ def marks_of(sheet: Sheet) -> frozenset[str]:
                 groups.add(found[0])
             elif found and not match:
                 decimal.add(found[-1])
+    are_shown = bool(groups)
     groups = groups or set(GROUPING.get(sheet.separator, ""))
-    return frozenset(groups - decimal if len(groups) == 1 else ())
+    return Marks(frozenset(groups - decimal if len(groups) == 1 else ()), are_shown)
 
 
-def number_in(field: str, marks: frozenset[str]) -> Mended:
+def number_in(field: str, marks: Marks) -> Mended:
     """The digits of a number with or without groups."""
     sign, size = ("-", field[1:]) if field.startswith("-") else ("", field)
     match = GROUPED.fullmatch(size)
@@ -54,12 +64,13 @@ def number_in(field: str, marks: frozenset[str]) -> Mended:
         return Mended(None, "is no whole number")
     mark = match.group(3)
     is_single = mark in ".," and match.group(2).count(mark) == 1
-    if is_single and mark not in marks:
+    if is_single and mark not in marks.groups:
         return Mended(None, f"is ambiguous: {mark!r} may group thousands or be a decimal mark")
     digits = NO_DIGIT.sub("", size)
     if not DIGITS.fullmatch(digits):
         return Mended(None, "has more than 18 digits")
-    return Mended(sign + digits, "groups taken out of numbers", f"{mark!r} may be a decimal mark" if is_single else "")
+    doubt = f"{mark!r} may be a decimal mark" if is_single and not marks.are_shown else ""
+    return Mended(sign + digits, "groups taken out of numbers", doubt)
 
 
 def word_in(title: str, field: str) -> Mended:
@@ -72,7 +83,7 @@ def word_in(title: str, field: str) -> Mended:
 
 
 @functools.lru_cache(maxsize=2**16)
-def mended_field(title: str, field: str, marks: frozenset[str]) -> Mended:
+def mended_field(title: str, field: str, marks: Marks) -> Mended:
     """A field as its title wants it. An empty one is left to `gasday`."""
     if field == "" or title in TEXTS:
         return Mended(field)

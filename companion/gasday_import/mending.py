@@ -2,7 +2,7 @@
 
 from dataclasses import dataclass, field
 
-from .fields import NAME, mended_field
+from .fields import NAME, Marks, mended_field
 from .forms import FIELDS, KINDS, NAMED_RESPOND, Form, is_name
 from .log import Log
 from .rows import Row, written
@@ -35,7 +35,7 @@ def eight_fields(row: Row, titles: Form, log: Log) -> list[str]:
     return (fields + [""] * size)[:size]
 
 
-def mend_behind_kind(row: Row, titles: Form, fields: list[str], marks: frozenset[str], left: Left, log: Log) -> None:
+def mend_behind_kind(row: Row, titles: Form, fields: list[str], marks: Marks, left: Left, log: Log) -> None:
     """Repairs the fields behind a row's kind, each by its title."""
     for number, title in enumerate(titles, 2):
         text, label = fields[number - 1], row.label(number)
@@ -53,7 +53,7 @@ def mend_behind_kind(row: Row, titles: Form, fields: list[str], marks: frozenset
             fields[number - 1] = mended.field
 
 
-def mend(row: Row, marks: frozenset[str], left: Left, log: Log) -> None:
+def mend(row: Row, marks: Marks, left: Left, log: Log) -> None:
     """Repairs a row that has fields."""
     titles = row.titles()
     fields = eight_fields(row, titles, log)

@@ -51,15 +51,32 @@ class Names:
         return self.data + between + out.getvalue().encode()
 
 
-def free_name(text: str, taken: set[str]) -> str:
-    """A name that is like what is written: `North Leg` is NORTH-LEG, or NORTH-LEG-2 where that is taken."""
+def words_of(text: str) -> list[str]:
+    """The words of a name that is like what is written: `North Leg` is NORTH and LEG."""
     letters = unicodedata.normalize("NFKD", text).encode("ascii", "ignore").decode().upper()
-    like = OTHER.sub("-", letters).strip("-") or "NAME"
-    name, number = like[:LONGEST].rstrip("-"), 1
+    return [word for word in OTHER.split(letters) if word] or ["NAME"]
+
+
+def joined(words: list[str], room: int) -> str:
+    """Words as a name that is no longer than there is room: of the longest word the last letter goes first, and numbers stay."""
+    words = list(words)
+    while len("-".join(words)) > room:
+        short = [at for at, word in enumerate(words) if len(word) > 1 and not word.isdigit()]
+        if not short:
+            return "-".join(words)[:room].strip("-")
+        at = max(short, key=lambda at: len(words[at]))
+        words[at] = words[at][:-1]
+    return "-".join(words)
+
+
+def free_name(text: str, taken: set[str]) -> str:
+    """A name that nothing else has: `North Leg` is NORTH-LEG, or NORTH-LEG-X2 where that is taken."""
+    words = words_of(text)
+    name, number = joined(words, LONGEST), 1
     while name in taken:
         number += 1
-        end = f"-{number}"
-        name = like[: LONGEST - len(end)].rstrip("-") + end
+        end = f"-X{number}"
+        name = joined(words, LONGEST - len(end)) + end
     return name
 
 
@@ -107,4 +124,8 @@ def doubt_of(text: str, name: str, is_new: bool, taken: set[str], path: str) -> 
     """Why people have to look at a name."""
     if not is_new:
         return f", doubtful: {name} is written too, so that both are one" if name in taken else ""
-    return f", which is new in {path}"
+    words = words_of(text)
+    short = joined(words, LONGEST)
+    if name == "-".join(words):
+        return ""
+    return f", doubtful: {'it is shortened' if name == short else f'{short} is the name of something else'}; {path} keeps it"

@@ -12,7 +12,8 @@ from .log import Log, Place
 from .rows import Row
 
 # What is no row, with how several are called.
-EMPTY, NOTE, HEADER = ("empty row", "empty rows"), ("row that begins with #", "rows that begin with #"), ("header row", "header rows")
+EMPTY, HEADER = ("empty row", "empty rows"), ("header row", "header rows")
+NOTE = ("row that begins with #", "rows that begin with #")
 SEPARATORS = {",": "commas", ";": "semicolons", "\t": "tabs"}
 KIND_FIRST = re.compile(rf'\s*"?\s*(?:{"|".join(KINDS)}) *"? *([,;\t])', re.IGNORECASE)
 

@@ -107,7 +107,7 @@ class Names(unittest.TestCase):
 
 
 class Told(Importing):
-    text = 'segment,s1,A,B,"1,234,567",,,\nsegment,s2,A,C,"60,000"\nsegment,S3,A,D,5\n'
+    text = 'segment,s1,A,B,1 234 567,,,\nsegment,s2,A,C,"60,000"\nsegment,S3,A,D,5\n'
 
     def test_kinds_of_repair_first_and_doubtful_ones_one_by_one(self) -> None:
         err = self.imports(self.text, "segment,S1,A,B,1234567,,,\nsegment,S2,A,C,60000,,,\nsegment,S3,A,D,5,,,\n")
@@ -117,6 +117,13 @@ class Told(Importing):
         2 rows padded to 8 fields, the first at standard input:2
 standard input:2: field 5: 60,000 made 60000, doubtful: ',' may be a decimal mark
 """)
+
+    def test_a_mark_that_another_number_shows_to_group_is_not_doubtful(self) -> None:
+        err = self.imports('segment;S1;A;B;1.234.567;;;\nsegment;S2;A;C;60.000;;;\n',
+                           "segment,S1,A,B,1234567,,,\nsegment,S2,A,C,60000,,,\n")
+        self.assertNotIn("doubtful", err)
+        self.imports("segment;S2;A;C;60.000;;;\n", "segment,S2,A,C,60000,,,\n",
+                     told=("standard input:1: field 5: 60.000 made 60000, doubtful: '.' may be a decimal mark\n",))
 
     def test_each_repair_if_it_is_asked_for(self) -> None:
         err = self.imports(self.text, "segment,S1,A,B,1234567,,,\nsegment,S2,A,C,60000,,,\nsegment,S3,A,D,5,,,\n", "--each")

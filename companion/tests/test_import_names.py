@@ -59,10 +59,8 @@ class Names(Importing):
         return (self.folder / "names.csv").read_text()
 
     def test_a_table_is_written_and_read_again(self) -> None:
-        err = self.imports(TEXT, WANT, "--names", "names.csv", told=(
-            "standard input:1: field 2: North Leg made NORTH-LEG, which is new in names.csv\n",
-            "standard input:3: field 2: P_1 made P-1, which is new in names.csv\n"))
-        self.assertNotIn("standard input:2", err)
+        self.imports(TEXT, WANT, "--names", "names.csv", told=(
+            "names.csv: 2 names are new, and are added: look at them there\n", "3 names taken from the table, the first at"))
         self.assertEqual(self.table(), "written,name\nNorth Leg,NORTH-LEG\nP_1,P-1\n")
         self.put("names.csv", "written,name\nNorth Leg,NL\nP_1,P-1")
         self.imports(TEXT.replace("R1", "R 1"), WANT.replace("NORTH-LEG", "NL").replace("R1", "R-1"), "--names", "names.csv",
@@ -70,11 +68,14 @@ class Names(Importing):
         self.assertEqual(self.table(), "written,name\nNorth Leg,NL\nP_1,P-1\nR 1,R-1\n")
 
     def test_names_that_others_have(self) -> None:
-        text = ("segment,NORTH-LEG,A,B,1,,,\nsegment,North Leg,B,C,1,,,\nsegment,Panhandle Eastern Station,C,D,1,,,\n"
-                "segment,Panhandle Eastern Storage,D,E,1,,,\nsegment,\u00c9t\u00e9,E,F,1,,,\nsegment,???,F,G,1,,,\n")
-        self.imports(text, "segment,NORTH-LEG,A,B,1,,,\nsegment,NORTH-LEG-2,B,C,1,,,\nsegment,PANHANDLE-EASTER,C,D,1,,,\n"
-                           "segment,PANHANDLE-EAST-2,D,E,1,,,\nsegment,ETE,E,F,1,,,\nsegment,NAME,F,G,1,,,\n",
-                     "--names", "names.csv")
+        text = ("segment,NORTH-LEG,A,B,1,,,\nsegment,North Leg,B,C,1,,,\nsegment,Delivery Point 10,C,D,1,,,\n"
+                "segment,Delivery Point 11,D,E,1,,,\nsegment,Deliver.Point.10,E,F,1,,,\nsegment,\u00c9t\u00e9,F,G,1,,,\n"
+                "segment,???,G,H,1,,,\n")
+        self.imports(text, "segment,NORTH-LEG,A,B,1,,,\nsegment,NORTH-LEG-X2,B,C,1,,,\nsegment,DELIVER-POINT-10,C,D,1,,,\n"
+                           "segment,DELIVER-POINT-11,D,E,1,,,\nsegment,DELI-POINT-10-X2,E,F,1,,,\nsegment,ETE,F,G,1,,,\n"
+                           "segment,NAME,G,H,1,,,\n", "--names", "names.csv", told=(
+            "2: field 2: North Leg made NORTH-LEG-X2, doubtful: NORTH-LEG is the name of something else; names.csv keeps it\n",
+            "3: field 2: Delivery Point 10 made DELIVER-POINT-10, doubtful: it is shortened; names.csv keeps it\n"))
 
     def test_a_name_of_the_table_that_is_written_too(self) -> None:
         self.put("names.csv", "North Leg,NORTH-LEG\n")
