@@ -3,11 +3,12 @@
 Lines are numbered in the order of first acceptance, and what is accepted is for `gasday` to say: so the calls before them are
 run by `gasday day`."""
 
+import subprocess
 from collections.abc import Sequence
 from dataclasses import dataclass
 
 from gasday_report.texts import Fault, rows_in
-from gasday_report.verdicts import call, program_at
+from gasday_report.verdicts import program_at
 
 from .forms import EVENT, FIELDS
 from .log import Log
@@ -66,8 +67,11 @@ class Day:
 
     def replies(self, program: str, numbers: dict[int, int]) -> list[list[str]]:
         """What each call is told."""
-        out, _ = call(program, ["day"], self.text(numbers))
-        replies = [row for row in rows_in(out, "gasday day") if row[0] in HEADS]
+        try:
+            out = subprocess.run([program, "day"], input=self.text(numbers), capture_output=True).stdout
+        except OSError as error:
+            raise Fault(f"{program} can't be run: {error.strerror}") from None
+        replies = [row for row in rows_in(out, "`gasday day`") if row[0] in HEADS]
         bad = next((row for row in replies if row[0] == "fault" or row[1] == "calendar"), None)
         if bad or len(replies) != len(self.calls):
             at = int(bad[1]) if bad and bad[0] == "fault" and bad[1].isdigit() else 1
