@@ -111,6 +111,8 @@ def run(options: argparse.Namespace) -> int:
     names = names_in(options.names) if options.names else None
     try:
         sources = [source for name in options.files for source in sources_in(read(name), options.sheet, log)]
+        if options.sheet and not any(source.is_sheet for source in sources):
+            raise Fault("--sheet goes with a workbook, and none is here")
         data = imported(sources, names, options.gasday, log)
     except Fault:
         sys.stderr.write("".join(log.lines(is_refused=True)))

@@ -49,19 +49,23 @@ def sources_in(source: Source, only: Sequence[str], log: Log) -> list[Source]:
     except ImportError:
         raise Fault(f"{source.name} is {kind}, which is read only where openpyxl is installed: {SAVE}, {INSTALL}") from None
     try:
-        values, formulas = (openpyxl.load_workbook(io.BytesIO(source.data), read_only=True, data_only=is_value)
-                            for is_value in (True, False))
-        missing = [name for name in only if name not in values.sheetnames]
+        values, formulas = ({sheet.title: sheet for sheet in openpyxl.load_workbook(
+            io.BytesIO(source.data), read_only=True, data_only=is_value).worksheets} for is_value in (True, False))
+        missing = [name for name in only if name not in values]
         if missing:
-            raise Fault(f"{source.name} has no sheet {missing[0]!r}: it has {', '.join(map(repr, values.sheetnames))}")
-        names = [name for name in values.sheetnames if not only or name in only]
+            raise Fault(f"{source.name} has no sheet {missing[0]!r}: it has {', '.join(map(repr, values))}")
+        names = [name for name in values if not only or name in only]
         return [sheet_source(f"{source.name}[{name}]", values[name], formulas[name], log) for name in names]
-    except (zipfile.BadZipFile, KeyError, ValueError, TypeError) as error:
+    except Fault:
+        raise
+    except Exception as error:  # whatever a damaged workbook makes of its reader
         raise Fault(f"{source.name} is {kind}, which openpyxl can't read: {error}; {SAVE}") from None
 
 
 def sheet_source(name: str, values: Any, formulas: Any, log: Log) -> Source:
-    """A sheet as a text with commas, a line for each of its rows."""
+    """A sheet as a text with commas, a line for each of its rows, whatever size the workbook says that it has."""
+    values.reset_dimensions()
+    formulas.reset_dimensions()
     out = io.StringIO(newline="")
     writer = csv.writer(out, lineterminator="\n")
     for line, cells in enumerate(rows_of(name, values, formulas, log), 1):

@@ -163,6 +163,10 @@ class Books(Importing):
         out, err, status = self.of_book("--sheet", "Calls", "--sheet", "Mine")
         self.assertEqual((out, status), ("", 2))
         self.assertIn("book.xlsx has no sheet 'Mine': it has 'Pipeline', 'Calls', 'Notes', 'Odd'", err)
+        nothing, err, status = self.run_on("", self.book("damaged.xlsx", "xl/workbook.xml"), python=book_python() or "")
+        self.assertEqual((nothing, status), (b"", 2))
+        self.assertIn("damaged.xlsx is an Excel workbook (xlsx), which openpyxl can't read: ", err)
+        self.refuses("", "--sheet", "Mine", status=2, told=("--sheet goes with a workbook, and none is here",))
 
 
 class Written(Importing):
