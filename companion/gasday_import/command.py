@@ -71,11 +71,12 @@ def read(name: str) -> Source:
 
 
 def write(path: str, data: bytes) -> None:
-    """Writes a file that is whole or as it was before; into what is no plain file it is written as it comes."""
-    if os.path.exists(path) and not os.path.isfile(path):
+    """Writes a file that is whole or as it was before; into what is no plain file, or where nothing can stand beside it, as it
+    comes."""
+    place = os.path.realpath(path)
+    if os.path.exists(path) and not (os.path.isfile(path) and os.access(os.path.dirname(place), os.W_OK)):
         Path(path).write_bytes(data)
         return
-    place = os.path.realpath(path)
     part = f"{place}.part"
     try:
         with open(part, "wb") as file:
@@ -85,9 +86,11 @@ def write(path: str, data: bytes) -> None:
         if os.path.exists(place):
             shutil.copymode(place, part)
         os.replace(part, place)
-    except BaseException:
-        Path(part).unlink(missing_ok=True)
+    except OSError as error:
+        error.filename = path  # and not what stands in its place until then
         raise
+    finally:
+        Path(part).unlink(missing_ok=True)
 
 
 def options_of(words: Sequence[str] | None) -> argparse.Namespace:

@@ -177,7 +177,7 @@ class Written(Importing):
         done = subprocess.run(["sh", "-c", 'ulimit -f 1; exec "$@"', "sh", *words], input=day.encode(), cwd=self.folder,
                               capture_output=True, timeout=600)
         self.assertEqual((done.stderr.decode(), done.returncode),
-                         ("gasday-import: the output can't be written: File too large\n", 2))
+                         ("gasday-import: text.csv can't be written: File too large\n", 2))
         self.assertEqual((self.folder / "text.csv").read_text(), "as it was\n")
         self.assertEqual(sorted(path.name for path in self.folder.iterdir()), ["text.csv"])
 
