@@ -19,6 +19,7 @@ KEY = slice(3, 7)
 NO_LINE = 4_294_967_295
 HEADS = ("accepted", "done", "frozen", "published", "declared", "refused", "fault")
 MOST_RUNS = 100
+REMEDY = "write the number of the line"
 
 Key = tuple[str, ...]
 
@@ -90,7 +91,8 @@ class Day:
             elif at in self.keys and reply[0] == "accepted":
                 lines[self.keys[at]] = int(reply[3])
             elif at in self.keys:
-                refused.setdefault(self.keys[at], f"its nomination at {self.rows[at].place} is refused, {reply[3]}")
+                words = f"its nomination at {self.rows[at].place} is refused, {reply[3]}, so that there is nothing to confirm"
+                refused.setdefault(self.keys[at], f"{words}: take this row out")
         return found
 
     def settled(self, program: str) -> dict[int, Found]:
@@ -108,7 +110,7 @@ class Day:
 def found_line(key: Key, lines: dict[Key, int], refused: dict[Key, str]) -> Found:
     if key in lines:
         return Found(lines[key])
-    return Found(NO_LINE, refused.get(key, "no nomination before it in the text has these names"))
+    return Found(NO_LINE, refused.get(key, f"no nomination before it in the text has these names: {REMEDY}"))
 
 
 def is_named(row: Row) -> bool:
@@ -129,9 +131,9 @@ def words_of(row: Row) -> str:
 def why_none(rows: Sequence[Row]) -> str:
     """Why no line can be found in rows of a text, whatever they say."""
     if any(row.kind in ("session", "desk") for row in rows):
-        return "an office's sessions call side by side, so that no text tells the order in which lines are numbered"
+        return f"an office's sessions call side by side, so that no text tells the order in which lines are numbered: {REMEDY}"
     days = sum(row.kind == "day" for row in rows)
-    return "" if days == 1 else f"the text has {days} day rows" if days else "the text has no day row"
+    return "" if days == 1 else f"the text has {days or 'no'} day row{'s' if days else ''}: {REMEDY}"
 
 
 def find_lines(rows: Sequence[Row], left: Sequence[Row], program: str | None, log: Log) -> None:
@@ -166,7 +168,7 @@ def write_numbers(day: Day, found: dict[int, Found], log: Log) -> None:
     for at, line in found.items():
         row = day.rows[at]
         if line.why:
-            log.error(row.place, f"there is no line {words_of(row)}: {line.why}; write the number of the line")
+            log.error(row.place, f"no line is found for {words_of(row)}: {line.why}")
             continue
         log.repair(row.place, "lines of confirmations found", f"line {line.number} is {words_of(row)}")
         row.fields = numbered(row, line.number)

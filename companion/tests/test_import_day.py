@@ -102,18 +102,18 @@ class Confirmations(Importing):
                        want="nominate,1,SHIP,BAD,P,R1,D1,5\nnominate,2,SHIP,C2,P,R1,D1,5\nrespond,4,OPR,1,origin,5,,\n")
         self.assertEqual(self.runs(), 2)
         self.confirmed("nominate,1,SHIP,BAD,P,R1,D1,5", "respond,4,OPR,BAD,P,R1,D1,origin,5", status=1, told=(
-            "standard input:3: error: there is no line BAD, package P, from R1 to D1: its nomination at standard input:2 is"
-            " refused, UnknownContract; write the number of the line",))
+            "standard input:3: error: no line is found for BAD, package P, from R1 to D1: its nomination at standard input:2 is"
+            " refused, UnknownContract, so that there is nothing to confirm: take this row out\n",))
 
     def test_names_that_nobody_nominated_before(self) -> None:
         self.confirmed("respond,4,OPR,C1,P,R1,D1,origin,5", "nominate,5,SHIP,C1,P,R1,D1,5", status=1, told=(
-            "standard input:2: error: there is no line C1, package P, from R1 to D1: no nomination before it in the text has"
-            " these names",))
+            "standard input:2: error: no line is found for C1, package P, from R1 to D1: no nomination before it in the text has"
+            " these names: write the number of the line\n",))
         self.assertEqual(self.runs(), 0)
 
     def test_where_no_line_can_be_found(self) -> None:
         row = "respond,4,OPR,C1,P,R1,D1,origin,5\n"
-        self.refuses(row, told=("error: there is no line C1, package P, from R1 to D1: the text has no day row",))
+        self.refuses(row, told=("error: no line is found for C1, package P, from R1 to D1: the text has no day row",))
         self.refuses(DAY + "session,1,OPR\n" + row, told=("an office's sessions call side by side",))
         self.confirmed("skip,7", "nominate,1,SHIP,C1,P,R1,D1,5", "respond,4,OPR,C1,P,R1,D1,origin,5", status=1, told=(
             "standard input:2: error: `gasday day` tells fault,2,Order of it, so that no lines of confirmations can be found",))
