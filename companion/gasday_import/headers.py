@@ -26,6 +26,7 @@ class Columns:
     is_plain: bool  # whether each that it has stands where it would stand without a header
     wrong: tuple[str, ...]  # why the header can't be followed
     taken: int | None = None  # the one field that no column is named for, where its own place has a name that none has
+    labels: tuple[str, ...] = ()  # what people call the eight fields of a row, or the nine
 
 
 def is_header(fields: tuple[str, ...]) -> bool:
@@ -85,7 +86,8 @@ class Header:
             places[taken] = taken + 1
         elif lacking:
             wrong.append(f"no column is named {' or '.join(names_of(kind, form[own])[0] for own in lacking)}")
-        return Columns(form, tuple(places), stays, tuple(wrong), taken)
+        labels = [*map(self.label, (self.kind_at, *places)), *[""] * (FIELDS - 1 - len(places))]
+        return Columns(form, tuple(places), stays, tuple(wrong), taken, tuple(labels))
 
     def is_strange(self, at: int) -> bool:
         """Whether a column has a name that no field has."""
@@ -139,9 +141,8 @@ class Header:
         places = (self.kind_at, *columns.places)
         if columns.wrong or self.has_surplus(kind, columns, fields, line):
             return None
-        short = FIELDS - len(places)
         values = [fields[at] if at is not None and at < len(fields) else "" for at in places]
-        return Taken((*values, *[""] * short), (*map(self.label, places), *[""] * short))
+        return Taken((*values, *[""] * (FIELDS - len(values))), columns.labels)
 
     def tell(self, kind: str, columns: Columns) -> None:
         """Tells how rows of a form are read, the first time that one comes."""
