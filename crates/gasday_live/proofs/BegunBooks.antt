@@ -14,7 +14,7 @@ use Rattle.gd_live.specs.Stands.{Stand}
 use Rattle.gd_opening.specs.Openings.{IsOpening}
 use Rattle.gasday_live.specs.Books.{OpensSo, stand_behind, Stands}
 use Rattle.gasday_live.specs.Runs.{KeptNone, IsHead, Begins, LeavesFront}
-use Rattle.gasday_live.proofs.Making.{opened_so}
+use Rattle.gasday_live.proofs.Opened.{opened_so}
 
 -- the head of an input
 pub head_is : (has_ended is_whole : Bool) (head bytes : List ℕ) → IsOpening head bytes has_ended → ((has_ended ≡ true) × (is_whole ≡ true)) ⊎ (has_ended ≡ false) → (is_whole ≡ true → bytes ≡ []) → IsHead head bytes

@@ -1,5 +1,5 @@
 -- The pieces of a book are the text of a day.
-use Rattle.std.proofs.Common.{◌≡◌, inl, ℕ, List, [], ◌∷◌, ◌++◌, Ok, refl, sym, ap, subst}
+use Rattle.std.proofs.Common.{◌≡◌, inl, ℕ, List, [], ◌∷◌, ◌++◌, refl, sym, ap, subst}
 use Rattle.gd_text_part.specs.Texts.{IsWithin}
 use Rattle.gd_day.specs.Calls.{calls_of}
 use Rattle.gd_day.specs.Opening.{Opened}

@@ -3,6 +3,8 @@ mod DayTexts
 mod Failing
 mod Faults
 mod Making
+mod MadeAgain
+mod Opened
 mod Openings
 mod ReadPieces
 mod Running

@@ -1,6 +1,6 @@
 //! Where a run begins: the book of a file, or one that the head of the input opens.
 
-ghost use Rattle.std.specs.Prelude.{◌≡◌, ◌≢◌, ◌++◌, [], List, Option, ℕ, length, IfOk};
+ghost use Rattle.std.specs.Prelude.{◌≡◌, ◌≢◌, ◌++◌, ◌∷◌, [], List, Option, ℕ, length, IfOk, OnOk};
 ghost use Rattle.std.specs.Io.KnownBytes.{Consumes};
 ghost use Rattle.sqlite.specs.Effect.{Database};
 ghost use Rattle.sqlite.specs.Held.{state};
@@ -83,7 +83,18 @@ fn read_head<R: Read>(alloc: Global, reader: &mut R) -> Result<(Vec<u8>, Vec<u8>
     Ok((text, begun))
 }
 
-/// Makes a book of the opening at the head of the input: it is the first piece of a file that keeps none.
+/// Keeps an opening, of which nothing was told, as the first piece of a file that keeps none.
+fn keep_opening<S: Alter>(conn: &mut Connection<S>, text: &[u8]) -> Result<(), StoreFault>
+    ensures kept { HasCleanDisk (state S.Store conn.new) → IsSettled [] (state S.Store conn.old)
+        → OnOk result (IsSettled ((text.now, []) ∷ []) (state S.Store conn.new)) }
+    ensures any_moment { HasCleanDisk (state S.Store conn.new) → IsSettled [] (state S.Store conn.old)
+        → LeavesFront [] (state S.Store conn.new) }
+    ensures clean { HasCleanDisk (state S.Store conn.new) → HasCleanDisk (state S.Store conn.old) }
+{
+    append(conn, 1, text, &[])
+}
+
+/// Makes a book of the opening at the head of the input, which is kept.
 fn begin_new<S: Alter, R: Read>(
     alloc: Global,
     conn: &mut Connection<S>,
@@ -99,14 +110,21 @@ fn begin_new<S: Alter, R: Read>(
 {
     let (text, bytes) = read_head(alloc, reader)?;
     let opened = open_opening(alloc, text.as_slice())?;
-    append(conn, 1, text.as_slice(), &[])?;
-    let desk = opened.into_desk(alloc);
-    let book = KeptBook { desk, calls: 0 };
-    Ok(Begun {
-        book,
-        next: 2,
-        bytes,
-    })
+    match keep_opening(conn, text.as_slice()) {
+        Ok(()) => {
+            let desk = opened.into_desk(alloc);
+            let book = KeptBook { desk, calls: 0 };
+            Ok(Begun {
+                book,
+                next: 2,
+                bytes,
+            })
+        }
+        Err(why) => {
+            drop(opened);
+            Err(NoRun::from(why))
+        }
+    }
 }
 
 /// Makes the book of a file again, which has so many pieces. Nothing of the input is read.
@@ -124,10 +142,10 @@ fn begin_again<S: Alter>(
         → LeavesNoMore (state S.Store conn.old) new }
     ensures clean { HasCleanDisk (state S.Store conn.new) → HasCleanDisk (state S.Store conn.old) }
 {
-    let book = read_book(rt, alloc, conn, count)?;
     let Some(next) = count.checked_add(1) else {
         return Err(NoRun::from(StoreFault::Store(Error::SqliteFailure(ErrorCode::TooBig))));
     };
+    let book = read_book(rt, alloc, conn, count)?;
     Ok(Begun {
         book,
         next,

@@ -87,10 +87,17 @@ pub fn read_book<S: Alter>(
         → LeavesNoMore (state S.Store conn.old) new }
     ensures clean { HasCleanDisk (state S.Store conn.new) → HasCleanDisk (state S.Store conn.old) }
 {
-    a_book_grows();
     let opened = open_piece(alloc, conn)?;
+    a_book_grows();
     let mut desk = opened.into_desk(alloc);
-    let calls = replay(rt, alloc, conn, &mut desk, 1, count)?;
-    desk.begin_run(0);
-    Ok(KeptBook { desk, calls })
+    match replay(rt, alloc, conn, &mut desk, 1, count) {
+        Ok(calls) => {
+            desk.begin_run(0);
+            Ok(KeptBook { desk, calls })
+        }
+        Err(why) => {
+            drop(desk);
+            Err(why)
+        }
+    }
 }

@@ -34,6 +34,7 @@ fn serve_begun<S: Alter, R: Read + Drop, W: Write>(
     ensures clean { HasCleanDisk (state S.Store conn.new) → HasCleanDisk (state S.Store conn.old) }
 {
     if !tell(alloc, writer, begun.book.opened()) {
+        drop(begun);
         return 2;
     }
     let Begun { book, next, bytes } = begun;

@@ -17,9 +17,8 @@ use Rattle.gd_text_part.specs.declared.row.Row.TheVariants as row
 use Rattle.gd_system.specs.Pipeline.{Pipeline}
 use Rattle.gd_day.specs.Calls.{event_of}
 use Rattle.gd_day.specs.Groups.{checked_group}
-use Rattle.gd_text_part.specs.Lines.{bare}
 use Rattle.gd_live.specs.Stands.{Stand, Group, with_line}
-use Rattle.gd_live.specs.Lines.{IsRow, HasRoom, IsConclusion, IsMade, IsSettle, IsFaulty, RowDoes, BareGives, LineGives, counted, numbered, waits, cleared, only_told}
+use Rattle.gd_live.specs.Lines.{IsRow, HasRoom, IsConclusion, IsMade, IsSettle, IsFaulty, RowDoes, BareGives, numbered, waits, cleared, only_told}
 
 -- what is told of a row is told
 abbrev pub Told : {X E : Type 0} → Result X E → Stand → List ℕ → Stand → Yield → Yield → Type 0
@@ -86,13 +85,11 @@ is_some_line [] some = λ e. some refl
 is_some_line (x ∷ xs) some = λ e. let bad : x ∷ xs ≡ [] = e in some (ap length bad)
 
 -- what a row did is what its line does
-pub row_taken : {X E : Type 0} (r : Result X E) (s : Stand) (n : ℕ) (after : Stand) (line seen : List ℕ) (old new : Yield) → seen ≡ bare line → length seen ≢ 0 → n ≡ s.number + 1
-    → OnOk r ((more : Yield) × RowDoes (numbered s n) seen after more × Adds old new more) → OnOk r ((more : Yield) × LineGives s line after more × Adds old new more)
-row_taken (Ok x) s n after line seen old new is some next (more, does, adds) =
-    let at : RowDoes (counted s) seen after more = subst (λ m. RowDoes (numbered s m) seen after more) next does in
-    let there : BareGives s seen after more = inr (is_some_line seen some, at) in
-    (more, subst (λ (l : List ℕ). BareGives s l after more) is there, adds)
-row_taken (Err e) s n after line seen old new is some next does = tt
+pub row_taken : {X E : Type 0} (r : Result X E) (s : Stand) (n : ℕ) (after : Stand) (line : List ℕ) (old new : Yield) → length line ≢ 0 → n ≡ s.number + 1
+    → OnOk r ((more : Yield) × RowDoes (numbered s n) line after more × Adds old new more) → OnOk r ((more : Yield) × BareGives s line after more × Adds old new more)
+row_taken (Ok x) s n after line old new some next (more, does, adds) =
+    (more, inr (is_some_line line some, subst (λ m. RowDoes (numbered s m) line after more) next does), adds)
+row_taken (Err e) s n after line old new some next does = tt
 
 -- the same group of the same call is found faulty so
 pub checked_as : (p q : Pipeline) (m n : ℕ) (xs ys : List Row) (f : TextFault) → p ≡ q → m ≡ n → xs ≡ ys → checked_group p m xs ≡ Err f → checked_group q n ys ≡ Err f

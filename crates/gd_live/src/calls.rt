@@ -30,6 +30,23 @@ pub(crate) fn tell(alloc: Global, told: Reply, given: &mut Given) -> Result<(), 
     print(alloc, &mut given.told, &[told])
 }
 
+/// Keeps the rows of a group and the line of the call behind it, with these bytes of replies.
+fn keep_replies(
+    group: &Group,
+    line: &[u8],
+    replies: &[u8],
+    given: &mut Given,
+) -> Result<(), AllocError>
+    ensures { OnOk result (Adds (seen given.old) (seen given.new)
+        (record { rows = with_line group.now line.now; replies = replies.now; told = [] })) }
+{
+    given.rows.extend_from_slice(group.bytes())?;
+    given.rows.extend_from_slice(line)?;
+    given.rows.push(b'\n')?;
+    given.replies.extend_from_slice(replies)?;
+    Ok(())
+}
+
 /// Keeps the rows of a group and the line of the call behind it, with what the call gave, which is told.
 pub(crate) fn keep(
     alloc: Global,
@@ -45,10 +62,7 @@ pub(crate) fn keep(
     let made = print(alloc, &mut printed, told.as_slice());
     drop(told);
     made?;
-    given.rows.extend_from_slice(group.bytes())?;
-    given.rows.extend_from_slice(line)?;
-    given.rows.push(b'\n')?;
-    given.replies.extend_from_slice(printed.as_slice())?;
+    keep_replies(group, line, printed.as_slice(), given)?;
     given.told.extend_from_slice(printed.as_slice())?;
     Ok(())
 }

@@ -351,6 +351,28 @@ impl LiveBook {
         }
     }
 
+    /// What a line does that has no carriage return at its end. An empty one is told as it is.
+    fn take_bare(
+        &mut self,
+        rt: &(impl Threads + Sync),
+        alloc: Global,
+        line: &[u8],
+        given: &mut Given,
+    ) -> Result<(), AllocError>
+        ensures { OnOk result ((more : Yield) × spec.BareGives (stand_of self.old) line.now (stand_of self.new) more
+            × Adds (seen given.old) (seen given.new) more) }
+    {
+        if line.is_empty() {
+            given.told.push(b'\n')?;
+            return Ok(());
+        }
+        let Some(number) = self.number.checked_add(1) else {
+            return Err(AllocError);
+        };
+        self.number = number;
+        self.take_row(rt, alloc, line, given)
+    }
+
     /// What a line does. The only error is want of memory, behind which the book may be ahead of what is kept.
     pub(crate) fn take_line(
         &mut self,
@@ -362,15 +384,7 @@ impl LiveBook {
         ensures gives { OnOk result ((more : Yield) × spec.LineGives (stand_of self.old) line.now (stand_of self.new) more
             × Adds (seen given.old) (seen given.new) more) }
     {
-        let line = bare(line);
-        if line.is_empty() {
-            given.told.push(b'\n')?;
-            return Ok(());
-        }
-        let Some(number) = self.number.checked_add(1) else {
-            return Err(AllocError);
-        };
-        self.number = number;
-        self.take_row(rt, alloc, line, given)
+        let plain = bare(line);
+        self.take_bare(rt, alloc, plain, given)
     }
 }

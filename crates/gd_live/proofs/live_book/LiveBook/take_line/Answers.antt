@@ -1,32 +1,14 @@
-use Rattle.std.proofs.Common.{rules, ◌≡◌, ◌≢◌, ◌+◌, inl, [], length, refl, sym, ◌∙◌, append-nil}
-use Rattle.gd_text_part.specs.Lines.{bare}
+use Rattle.std.proofs.Common.{List, ℕ, subst}
+use Rattle.std.specs.Prelude.{OnOk}
 use Rattle.gd_serving.specs.Seen.{seen}
+use Rattle.gd_serving.specs.Yields.{Yield, Adds}
 use Rattle.gd_live.specs.Seen.{stand_of}
-use Rattle.gd_live.specs.Lines.{echoed}
-use Rattle.gd_live.proofs.Taking.{is_none, row_taken}
+use Rattle.gd_live.specs.Lines.{BareGives}
 use Rattle.gd_live.proofs.live_book.LiveBook.take_line.Goals as goal
 
-pub returns-then-is_empty : goal.returns-then-is_empty
-returns-then-is_empty g c =
-    let zero : length c.bare-line.result.now ≡ 0 = search rules in
-    let none : bare c.args.line.now ≡ [] = sym c.bare-line.ensures ∙ is_none c.bare-line.result.now zero in
-    record {
-      gives = (
-        echoed,
-        inl (none, refl, refl),
-        record {
-          rows = sym (append-nil c.args.given.now.rows.items);
-          replies = sym (append-nil c.args.given.now.replies.items);
-          told = c.in_ok-push.ensures.items;
-        },
-      );
-    }
-
 pub returns : goal.returns
-returns g c =
-    let some : length c.bare-line.result.now ≢ 0 = search rules in
-    let more : c.in-Some.number ≡ c.args.self.now.number + 1 = search rules in
-    record {
-      gives = row_taken c.take_row.result (stand_of c.args.self.now) c.in-Some.number (stand_of c.take_row.new.self) c.args.line.now c.bare-line.result.now (seen c.args.given.now) (seen c.take_row.new.given)
-          c.bare-line.ensures some more c.take_row.ensures;
-    }
+returns g c = record {
+  gives = subst
+      (λ (l : List ℕ). OnOk c.take_bare.result ((more : Yield) × BareGives (stand_of c.args.self.now) l (stand_of c.take_bare.new.self) more × Adds (seen c.args.given.now) (seen c.take_bare.new.given) more))
+      c.bare-plain.ensures c.take_bare.ensures;
+}
