@@ -1,0 +1,66 @@
+"""Which program a tool runs where nothing names one: the one of the release that it came with, before any on the PATH."""
+
+import os
+import shutil
+import subprocess
+import sys
+import unittest
+from pathlib import Path
+
+from helpers import TOP, TWO_LINES, TWO_LINES_ANSWER, TWO_LINES_TOLD, ReportTest
+
+
+class Launching(ReportTest):
+    def setUp(self) -> None:
+        super().setUp()
+        self.top = Path(self.folder.name)
+
+    def put_program(self, folder: Path) -> None:
+        """A program that passes each answer, and notes in which folder it stands."""
+        folder.mkdir(parents=True, exist_ok=True)
+        path = folder / "gasday"
+        path.write_text(f"#!/bin/sh\necho '{folder.name}' >> '{self.top}/ran'\ncat > /dev/null\nprintf '{TWO_LINES_TOLD}'\n")
+        path.chmod(0o755)
+
+    def put_tools(self, companion: Path, audit: Path) -> None:
+        shutil.copytree(TOP / "companion", companion, ignore=shutil.ignore_patterns("tests", "__pycache__"))
+        audit.parent.mkdir(parents=True, exist_ok=True)
+        shutil.copy(TOP / "examples" / "audit", audit)
+
+    def ran(self, *tools: Path) -> list[str]:
+        """The folders of the programs that these tools run, from another folder, with one on the PATH."""
+        self.put_program(self.top / "path")
+        question, answer = self.path("question.csv", TWO_LINES), self.path("answer.csv", TWO_LINES_TOLD + TWO_LINES_ANSWER)
+        environment = {"PATH": f"{self.top}/path:/usr/bin:/bin", "PYTHONDONTWRITEBYTECODE": "1"}
+        for tool in tools:
+            words = ["bash" if "audit" in tool.name else sys.executable, tool, question, answer]
+            done = subprocess.run(words, cwd=self.top / "path", env=environment, capture_output=True, timeout=600)
+            self.assertEqual((done.stderr, done.returncode), (b"", 0))
+        told = (self.top / "ran").read_text().splitlines()
+        os.remove(self.top / "ran")
+        return told
+
+    def test_unpacked(self) -> None:
+        release = self.top / "release"
+        self.put_tools(release / "companion", release / "examples" / "audit")
+        self.put_program(release)
+        self.assertEqual(self.ran(release / "companion" / "gasday-report", release / "examples" / "audit"), ["release", "release"])
+
+    def test_installed(self) -> None:
+        prefix = self.top / "a prefix"
+        self.put_tools(prefix / "share" / "gasday", prefix / "bin" / "gasday-audit")
+        (prefix / "bin" / "gasday-report").symlink_to("../share/gasday/gasday-report")
+        self.assertEqual(self.ran(prefix / "bin" / "gasday-report", prefix / "bin" / "gasday-audit"), ["path", "path"])
+        self.put_program(prefix / "bin")
+        self.assertEqual(self.ran(prefix / "bin" / "gasday-report", prefix / "bin" / "gasday-audit"), ["bin", "bin"])
+
+    def test_in_a_repository_the_script_that_builds_is_left_alone(self) -> None:
+        repository = self.top / "repository"
+        self.put_tools(repository / "companion", repository / "examples" / "audit")
+        self.put_program(repository)
+        (repository / "crates").mkdir()
+        self.assertEqual(self.ran(repository / "companion" / "gasday-report"), ["path"])
+
+
+if __name__ == "__main__":
+    unittest.main()
