@@ -392,4 +392,7 @@ def main() -> int:
 
 
 if __name__ == "__main__":
+    if sys.argv[1:] == ["--help"]:
+        print(__doc__.strip())
+        sys.exit()
     sys.exit(main())

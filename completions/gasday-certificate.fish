@@ -1,0 +1,4 @@
+# Completions of gasday-certificate for fish: put this file into a folder of $fish_complete_path.
+# Made by tests/tool_pages.py of what gasday-certificate --help tells: change that, and not this file.
+
+complete -c gasday-certificate -l help -d 'show this help and exit'
