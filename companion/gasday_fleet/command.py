@@ -104,7 +104,9 @@ def run_files(options: argparse.Namespace) -> int:
         if options.command == "audit":
             job = Audit(program, paths, options.send)
         else:
-            job = Days(program, paths, options.archive, options.send)
+            job = days = Days(program, paths, options.archive, options.send)
+            for folder in days.untold():
+                tell(f"{folder} has no folder told, so that its postings alone are compared")
         job.is_timed = not options.untimed
         return run(job, options, runner)
 

@@ -3,59 +3,36 @@
 import csv
 import io
 import os
-import sqlite3
 import tempfile
 import time
-from collections.abc import Sequence
+from collections.abc import Iterable, Sequence
 from pathlib import Path
 from typing import NamedTuple
-from urllib.parse import quote
 
+from .postings import Posting, Unreadable, books_in, first_other, other_postings, postings_in, shown
 from .program import Answer, Program, Told, failure, no_answer, sha256_of
 
 ARCHIVE = "archive.db"
-QUERY = "select cycle, round, rule, body from posting2 where book = ? order by cycle, round, rule, body"
-
-
-class Unreadable(Exception):
-    """A gas day's text, what it was told or what was kept of it can't be read."""
-
-
-class Posting(NamedTuple):
-    """A row of an archive, whatever stands in it."""
-
-    cycle: object
-    round: object
-    rule: object
-    body: object
 
 
 class Day(NamedTuple):
-    """A gas day as it is kept: its text, what it was told, and, where they are to be compared, its postings."""
+    """A gas day as it is kept: its text, and what it was told and its postings, where they are to be compared."""
 
     text: bytes
-    told: bytes
+    told: bytes | None
     kept: list[Posting] | None
 
 
-def book_of(text: bytes) -> str:
+def first_book(lines: Iterable[str]) -> str:
     """The book that the `day` row of a text names; nothing where there is no such row."""
     try:
-        rows = csv.reader(io.StringIO(text.decode("utf-8-sig"), newline=""), strict=True)
-        return next((row[3] for row in rows if row[:1] == ["day"] and len(row) > 3), "")
+        return next((row[3] for row in csv.reader(lines, strict=True) if row[:1] == ["day"] and len(row) > 3), "")
     except (UnicodeDecodeError, csv.Error) as error:
         raise Unreadable(f"the text is none of comma-separated fields: {error}") from None
 
 
-def postings_in(path: str, book: str) -> list[Posting]:
-    try:
-        archive = sqlite3.connect(f"file:{quote(path)}?mode=ro", uri=True)
-        try:
-            return [Posting(*row) for row in archive.execute(QUERY, (book,))]
-        finally:
-            archive.close()
-    except sqlite3.Error as error:
-        raise Unreadable(f"{os.path.basename(path)} can't be read: {error}") from None
+def book_of(text: bytes) -> str:
+    return first_book(io.TextIOWrapper(io.BytesIO(text), encoding="utf-8-sig", newline=""))
 
 
 def part_of(folder: str, kind: str, day: str) -> bytes:
@@ -65,37 +42,59 @@ def part_of(folder: str, kind: str, day: str) -> bytes:
         raise Unreadable(f"{kind}/{day} can't be read: {error.strerror}") from None
 
 
+def is_told(folder: str) -> bool:
+    """Whether it stands in a folder what its gas days were told."""
+    return os.path.isdir(os.path.join(folder, "told"))
+
+
 def read_day(folder: str, day: str, is_kept: bool) -> Day:
-    text, told = part_of(folder, "texts", day), part_of(folder, "told", day)
+    """A gas day of a folder. Where its postings are compared, it need not have been kept what it was told."""
+    text = part_of(folder, "texts", day)
+    told = part_of(folder, "told", day) if is_told(folder) or not is_kept else None
     return Day(text, told, postings_in(os.path.join(folder, ARCHIVE), book_of(text)) if is_kept else None)
+
+
+def books_of(folder: str) -> set[str]:
+    """The books of a folder's texts, less those texts that can't be read, which their own gas days tell."""
+    books = set()
+    for path in Path(folder, "texts").glob("*.csv"):
+        try:
+            with open(path, encoding="utf-8-sig", newline="") as file:
+                books.add(first_book(file))
+        except (OSError, Unreadable):
+            continue
+    return books
+
+
+def surplus_of(folder: str) -> dict[str, Answer]:
+    """The books of which a folder's archive keeps postings and no text is there, each with the answer to that."""
+    path, known = os.path.join(folder, ARCHIVE), books_of(folder)
+    try:
+        kept = {book: postings_in(path, book) for book in books_in(path) if book not in known}
+    except Unreadable:
+        return {}  # which each gas day tells
+    told = "it is kept, and no text that can be read is of this book"
+    return {f"book {book}": {"verdict": "differs", "told": told, "postings": str(len(its)), "kept_sha256": sum_of(its)}
+            for book, its in kept.items()}
+
+
+def sum_of(kept: list[Posting]) -> str:
+    return sha256_of(repr(kept).encode())
 
 
 def sums_of(day: Day) -> Answer:
     """The SHA-256 of all that is compared."""
-    sums = {"text_sha256": sha256_of(day.text), "told_sha256": sha256_of(day.told)}
-    return sums if day.kept is None else {**sums, "kept_sha256": sha256_of(repr(day.kept).encode())}
+    sums = {"text_sha256": sha256_of(day.text)}
+    sums |= {} if day.told is None else {"told_sha256": sha256_of(day.told)}
+    return sums if day.kept is None else {**sums, "kept_sha256": sum_of(day.kept)}
 
 
 def other_row(held: Sequence[str], told: Sequence[str]) -> str:
     """The first row in which what was told is not what is told now; nothing where there is none."""
     if held == told:
         return ""
-    at = next((k for k, (a, b) in enumerate(zip(held, told, strict=False)) if a != b), min(len(held), len(told)))
-    sides = [rows[at].rstrip(",") if at < len(rows) else "nothing" for rows in (held, told)]
-    return f"row {at + 1} that was told is {sides[0]}, and gasday day tells {sides[1]}"
-
-
-def other_posting(kept: Sequence[Posting], made: Sequence[Posting]) -> str:
-    """The first cycle whose posting is not the one that is published now; nothing where there is none."""
-    for cycle in sorted({posting.cycle for posting in (*kept, *made)}, key=str):
-        held, new = ([posting for posting in side if posting.cycle == cycle] for side in (kept, made))
-        if not held:
-            return f"cycle {cycle} is published, and not kept"
-        if not new:
-            return f"cycle {cycle} is kept, and not published"
-        if held != new:
-            return f"the posting of cycle {cycle} that is kept is not the one that is published"
-    return ""
+    at = first_other(held, told)
+    return f"row {at + 1} that was told is {shown(held, at)}, and gasday day tells {shown(told, at)}"
 
 
 def rows_of(out: bytes) -> list[str]:
@@ -123,7 +122,8 @@ def run_day(program: Program, day: Day) -> Answer:
         raise no_answer(told, "day")
     if day.kept is not None:
         answer["postings"] = str(len(day.kept))
-    other = other_row(rows_of(day.told), rows_of(told.out)) or other_posting(day.kept or [], made)
+    others = [] if day.told is None else [other_row(rows_of(day.told), rows_of(told.out))]
+    other = "; ".join(filter(None, [*others, *other_postings(day.kept or [], made)]))
     return {**answer, "verdict": "differs" if other else "same", "told": other}
 
 

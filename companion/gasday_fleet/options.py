@@ -19,7 +19,8 @@ NOT_PROVED = """Nothing of this is proved; each answer that it counts has passed
 `gasday check`. `gasday-fleet --help` tells more, and the exit status."""
 AUDIT = "Audits archives, by `gasday audit`. The table has file, postings, verdict, what was told, seconds and SHA-256."
 DAYS = """Runs the gas days of folders once more, by `gasday day`, and compares what it tells with what was told: of each text
-FOLDER/texts/DAY.csv with FOLDER/told/DAY.csv."""
+FOLDER/texts/DAY.csv with FOLDER/told/DAY.csv. With --archive it tells postings that are missing, surplus or other ones, and books
+of which no text is there; told/ may then be left out."""
 STUDY = """Solves a question once more for each scenario, passes each answer through `gasday check best` or `gasday check cut`,
 and compares it with the base. SCENARIOS has a row of names, scenario,element,capacity or scenario,line,floor,ceiling, whose
 groups may stand several times; further columns are labels."""

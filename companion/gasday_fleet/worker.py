@@ -10,11 +10,11 @@ from typing import NamedTuple
 import certificate
 from gasday_report import texts
 
-from . import archives, base, gas_days, program, solving
+from . import archives, base, gas_days, postings, program, solving
 from .program import Died, called, sha256_of_program
 
 SECONDS = 60  # that the program may take to tell its version
-RUN_BY_WORKERS = (certificate, texts, program, archives, gas_days, base, solving, sys.modules[__name__])
+RUN_BY_WORKERS = (certificate, texts, program, archives, postings, gas_days, base, solving, sys.modules[__name__])
 # The SHA-256 of all code that workers run, as this process has it loaded.
 CODE = hashlib.sha256("".join(map(inspect.getsource, RUN_BY_WORKERS)).encode()).hexdigest()
 
