@@ -44,7 +44,8 @@ class Launching(ReportTest):
         release = self.top / "release"
         self.put_tools(release / "companion", release / "examples" / "audit")
         self.put_program(release)
-        self.assertEqual(self.ran(release / "companion" / "gasday-report", release / "examples" / "audit"), ["release", "release"])
+        ran = self.ran(release / "companion" / "gasday-report", release / "examples" / "audit")
+        self.assertEqual(ran, ["release", "release"])
 
     def test_installed(self) -> None:
         prefix = self.top / "a prefix"

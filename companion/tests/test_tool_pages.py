@@ -39,8 +39,9 @@ def helps(name: str) -> dict[str, set[str]]:
 
 class Pages(unittest.TestCase):
     def test_each_is_as_it_would_be_made(self) -> None:
-        done = subprocess.run([sys.executable, TOP / "tests" / "tool_pages.py", "check"], capture_output=True, text=True, timeout=600)
-        self.assertEqual((done.stdout.splitlines()[-1], done.returncode), (f"{4 * len(SCRIPTS)} passed, 0 failed", 0), done.stdout)
+        words = [sys.executable, TOP / "tests" / "tool_pages.py", "check"]
+        told = subprocess.run(words, capture_output=True, text=True, timeout=600).stdout
+        self.assertEqual(told.splitlines()[-1], f"{4 * len(SCRIPTS)} passed, 0 failed", told)
 
     def test_the_options_of_a_page(self) -> None:
         for name in SCRIPTS:
@@ -86,7 +87,8 @@ class Completing(unittest.TestCase):
             if not shutil.which(shell):
                 continue
             for name in SCRIPTS:
-                done = subprocess.run([shell, "-n", COMPLETIONS / pattern.format(name)], capture_output=True, text=True, timeout=600)
+                words = [shell, "-n", COMPLETIONS / pattern.format(name)]
+                done = subprocess.run(words, capture_output=True, text=True, timeout=600)
                 self.assertEqual((done.stderr, done.returncode), ("", 0), (shell, name))
 
 
