@@ -1,0 +1,99 @@
+"""Tests of tests/make_release.py: which gate logs it takes, and what it installs and packs, with a program that only tells a
+version; and a whole release where the program is built, or GASDAY names one in the environment."""
+
+import importlib
+import os
+import shutil
+import subprocess
+import sys
+import tempfile
+import unittest
+from pathlib import Path
+from typing import Any
+
+from helpers import TOP
+
+from gasday_report.verdicts import BUILT
+
+sys.path.insert(0, str(TOP / "tests"))
+make_release: Any = importlib.import_module("make_release")
+
+PROGRAM = Path(os.environ.get("GASDAY", BUILT))
+FAKE, LOG = b"#!/bin/sh\necho 'gasday 1.0.0 (of a test)'\n", b"cases: 7 passed, 0 failed\n1234 passed, 0 failed\n"
+TOOLS = {"gasday", "gasday-audit", "gasday-certificate", *(path.name for path in (TOP / "companion").glob("gasday-*"))}
+
+
+class Release(unittest.TestCase):
+    def setUp(self) -> None:
+        folder = tempfile.TemporaryDirectory()
+        self.addCleanup(folder.cleanup)
+        self.folder = Path(folder.name)
+
+    def install(self) -> Path:
+        """The prefix into which a release is installed, by somebody whose files nobody else may read."""
+        release = make_release.release_of(FAKE, LOG, True)
+        archive, prefix = self.folder / "a.tar.gz", self.folder / "a prefix"
+        archive.write_bytes(make_release.packed(release))
+        subprocess.run(["tar", "-xzf", archive, "-C", self.folder], check=True)
+        subprocess.run(["sh", "-c", 'umask 077 && exec "$@"', "sh", self.folder / release.name() / "install", prefix], check=True)
+        return prefix
+
+    def test_logs(self) -> None:
+        for log in (b"", b"7 passed, 1 failed\n", b"7 passed, 10 failed\n", LOG + b"and more\n", b"0 passed, 0 failed\n",
+                    b"books did not come to the end\n0 passed, 1 failed\n", b"manual: 7 passed, 0 failed\n"):
+            with self.assertRaises(make_release.Refused):
+                make_release.release_of(FAKE, log, True)
+        make_release.release_of(FAKE, LOG, True)
+        program, log = self.folder / "gasday", self.folder / "log"
+        program.write_bytes(FAKE)
+        log.write_bytes(b"7 passed, 1 failed\n")
+        done = subprocess.run([sys.executable, TOP / "tests" / "make_release.py", "--dirty", program, log, self.folder / "made"],
+                              capture_output=True, text=True, timeout=600)
+        self.assertEqual((done.stdout, done.returncode, (self.folder / "made").exists()), ("", 1, False))
+        self.assertIn("the gate's log doesn't end with 'N passed, 0 failed', but with: 7 passed, 1 failed\n", done.stderr)
+
+    def test_what_is_installed(self) -> None:
+        prefix = self.install()
+        self.assertEqual({path.name for path in (prefix / "bin").iterdir()}, TOOLS)
+        for pattern in ("share/man/man1/{}.1", "share/bash-completion/completions/{}", "share/zsh/site-functions/_{}",
+                        "share/fish/vendor_completions.d/{}.fish"):
+            found = {path.name for path in (prefix / pattern).parent.iterdir()}
+            self.assertEqual(found, {Path(pattern).name.format(name) for name in TOOLS})
+        for path in prefix.rglob("*"):
+            for_all = 0o055 if path.is_dir() or path.parent.name == "bin" else 0o044
+            self.assertEqual(path.stat().st_mode & for_all, for_all, path)
+        for name in TOOLS - {"gasday"}:
+            done = subprocess.run([prefix / "bin" / name, "--help"], cwd=self.folder, capture_output=True, timeout=600)
+            self.assertEqual((done.stderr, done.returncode), (b"", 0))
+
+    @unittest.skipUnless(shutil.which("dpkg-deb"), "dpkg-deb is not installed")
+    def test_the_package_has_the_same_files_and_is_made_alike(self) -> None:
+        prefix, release = self.install(), make_release.release_of(FAKE, LOG, True)
+        packages = []
+        for name in ("one", "two"):
+            (self.folder / name).mkdir()
+            packages.append(make_release.packaged(release, self.folder / release.name(), self.folder / name))
+        self.assertEqual(*(path.read_bytes() for path in packages))
+        told = subprocess.run(["dpkg-deb", "-c", packages[0]], capture_output=True, text=True, check=True, timeout=600).stdout
+        files = [line for line in told.splitlines() if " ./usr/" in line and not line.endswith("/")]
+        packed = {line.split(" ./usr/")[1].split(" -> ")[0] for line in files}
+        wanted = {str(path.relative_to(prefix)) for path in prefix.rglob("*") if not path.is_dir()}
+        wanted = {name.replace("zsh/site-functions", "zsh/vendor-completions") for name in wanted}
+        self.assertEqual(packed, {f"{name}.gz" if name.startswith("share/man") else name for name in wanted})
+        self.assertEqual(set(line.split()[1] for line in told.splitlines()), {"root/root"})
+
+    @unittest.skipUnless(os.access(PROGRAM, os.X_OK), "no program is built")
+    def test_a_whole_release_is_tried_and_made_alike(self) -> None:
+        log, made = self.folder / "log", []
+        log.write_bytes(LOG)
+        for name in ("one", "two"):
+            words = [sys.executable, TOP / "tests" / "make_release.py", "--dirty", PROGRAM, log, self.folder / name]
+            done = subprocess.run(words, capture_output=True, text=True, timeout=600)
+            self.assertEqual((done.stderr, done.returncode), ("", 0))
+            made.append({path.name: path.read_bytes() for path in (self.folder / name).iterdir()})
+        self.assertEqual(made[0], made[1])
+        self.assertEqual(len(made[0]), 4)
+
+
+if __name__ == "__main__":
+    unittest.main()
