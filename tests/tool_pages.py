@@ -4,9 +4,9 @@ r"""tool_pages.py make | check
 The manual pages and the completions of the tools beside the program, which are the commands in companion/, with
 companion/certificate.py as `gasday-certificate` and examples/audit as `gasday-audit`: man/TOOL.1, and completions/TOOL.bash,
 _TOOL and TOOL.fish. They are made of what each tool tells with --help, and a page's examples of those in its document. `make`
-writes them. `check` compares them with what `make` would write, and prints what differs, and what is there of a tool that isn't;
-the last line is 'N passed, M failed', where N counts the files that are as they would be made, and the exit status is 0 only where
-all are.
+writes them. `check` compares them with what `make` would write, and prints what differs, and what is there of a tool that isn't.
+The last line is 'N passed, M failed', where N counts the files that are as they would be made, and the exit status is 0 only
+where all are.
 
 A help is read as argparse writes it, and else as a line of usage with paragraphs behind it. man/gasday.1 and the completions of
 `gasday` itself are none of these: tests/manual.py makes that page.
