@@ -157,14 +157,13 @@ def release_of(program: bytes, log: bytes, is_dirty: bool) -> Release:
 def packed(release: Release) -> bytes:
     """The bytes of the archive, whose members are in a folder of its name."""
     out = io.BytesIO()
-    with gzip.GzipFile("", "wb", 9, out, release.time) as zipped, \
-            tarfile.open(fileobj=zipped, mode="w", format=tarfile.USTAR_FORMAT) as tar:
+    with tarfile.open(fileobj=out, mode="w", format=tarfile.USTAR_FORMAT) as tar:
         for name, runs, data in release.members:
             member = tarfile.TarInfo(f"{release.name()}/{name}")
             member.size, member.mtime, member.mode = len(data), release.time, 0o755 if runs else 0o644
             member.uname = member.gname = "root"
             tar.addfile(member, io.BytesIO(data))
-    return out.getvalue()
+    return gzip.compress(out.getvalue(), 9, mtime=release.time)
 
 
 # The Debian package.

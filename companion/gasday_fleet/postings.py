@@ -3,7 +3,6 @@
 Nothing is written beside an archive, so that it may stand where nothing can be."""
 
 import os
-import shutil
 import sqlite3
 import tempfile
 from collections.abc import Iterator, Sequence
@@ -11,7 +10,7 @@ from contextlib import closing, contextmanager
 from typing import NamedTuple
 from urllib.parse import quote
 
-from .archives import LOG, log_of
+from .archives import LOG, copied, log_of
 
 QUERY = "select cycle, round, rule, body from posting2 where book = ? order by cycle, round, rule, body"
 BOOKS = "select distinct book from posting2 order by book"
@@ -46,10 +45,7 @@ def opened(path: str) -> Iterator[sqlite3.Connection]:
             yield archive
         return
     with tempfile.TemporaryDirectory(prefix="gasday-fleet-") as folder:
-        copy = os.path.join(folder, "archive.db")
-        for end in ("", LOG):
-            shutil.copyfile(path + end, copy + end)
-        with closing(sqlite3.connect(copy)) as archive:
+        with closing(sqlite3.connect(copied(path, folder))) as archive:
             yield archive
 
 

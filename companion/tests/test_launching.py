@@ -33,7 +33,7 @@ class Launching(ReportTest):
         question, answer = self.path("question.csv", TWO_LINES), self.path("answer.csv", TWO_LINES_TOLD + TWO_LINES_ANSWER)
         environment = {"PATH": f"{self.top}/path:/usr/bin:/bin", "PYTHONDONTWRITEBYTECODE": "1"}
         for tool in tools:
-            words = ["bash" if "audit" in tool.name else sys.executable, tool, question, answer]
+            words = ["bash" if "audit" in tool.name else sys.executable, str(tool), question, answer]
             done = subprocess.run(words, cwd=self.top / "path", env=environment, capture_output=True, timeout=600)
             self.assertEqual((done.stderr, done.returncode), (b"", 0))
         told = (self.top / "ran").read_text().splitlines()

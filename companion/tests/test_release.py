@@ -39,10 +39,10 @@ class Release(unittest.TestCase):
         return prefix
 
     def test_logs(self) -> None:
-        for log in (b"", b"7 passed, 1 failed\n", b"7 passed, 10 failed\n", LOG + b"and more\n", b"0 passed, 0 failed\n",
-                    b"books did not come to the end\n0 passed, 1 failed\n", b"manual: 7 passed, 0 failed\n"):
+        for words in (b"", b"7 passed, 1 failed\n", b"7 passed, 10 failed\n", LOG + b"and more\n", b"0 passed, 0 failed\n",
+                      b"books did not come to the end\n0 passed, 1 failed\n", b"manual: 7 passed, 0 failed\n"):
             with self.assertRaises(make_release.Refused):
-                make_release.release_of(FAKE, log, True)
+                make_release.release_of(FAKE, words, True)
         make_release.release_of(FAKE, LOG, True)
         program, log = self.folder / "gasday", self.folder / "log"
         program.write_bytes(FAKE)
@@ -87,8 +87,8 @@ class Release(unittest.TestCase):
         log, made = self.folder / "log", []
         log.write_bytes(LOG)
         for name in ("one", "two"):
-            words = [sys.executable, TOP / "tests" / "make_release.py", "--dirty", PROGRAM, log, self.folder / name]
-            done = subprocess.run(words, capture_output=True, text=True, timeout=600)
+            words = ("--dirty", PROGRAM, log, self.folder / name)
+            done = subprocess.run([sys.executable, TOP / "tests" / "make_release.py", *words], capture_output=True, text=True, timeout=600)
             self.assertEqual((done.stderr, done.returncode), ("", 0))
             made.append({path.name: path.read_bytes() for path in (self.folder / name).iterdir()})
         self.assertEqual(made[0], made[1])

@@ -39,7 +39,7 @@ def helps(name: str) -> dict[str, set[str]]:
 
 class Pages(unittest.TestCase):
     def test_each_is_as_it_would_be_made(self) -> None:
-        words = [sys.executable, TOP / "tests" / "tool_pages.py", "check"]
+        words = [sys.executable, str(TOP / "tests" / "tool_pages.py"), "check"]
         told = subprocess.run(words, capture_output=True, text=True, timeout=600).stdout
         self.assertEqual(told.splitlines()[-1], f"{4 * len(SCRIPTS)} passed, 0 failed", told)
 
@@ -87,7 +87,7 @@ class Completing(unittest.TestCase):
             if not shutil.which(shell):
                 continue
             for name in SCRIPTS:
-                words = [shell, "-n", COMPLETIONS / pattern.format(name)]
+                words = [shell, "-n", str(COMPLETIONS / pattern.format(name))]
                 done = subprocess.run(words, capture_output=True, text=True, timeout=600)
                 self.assertEqual((done.stderr, done.returncode), ("", 0), (shell, name))
 
