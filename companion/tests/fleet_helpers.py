@@ -72,7 +72,8 @@ def day(text, path):
         archive = sqlite3.connect(path)
         archive.execute("create table posting2 (book, cycle, round, body, rule)")
         book = next(row[3] for row in rows if row[0] == "day")
-        archive.executemany("insert into posting2 values (?, ?, ?, ?, 2)", [(book, at, at, b"head\\nbody %d" % at) for at in cycles])
+        kept = [(book, at, at, b"head\\nbody %d" % at) for at in cycles]
+        archive.executemany("insert into posting2 values (?, ?, ?, ?, 2)", kept)
         archive.commit()
     tell(*(f"published,{{at}},{{at}},{{at}}" for at in cycles))
 

@@ -66,7 +66,34 @@ class Built(FleetTest):
         self.assertEqual((cells_of(out, "verdict"), status), (["same", "differs", "differs", "differs"], 1))
         self.assertEqual(cells_of(out, "postings"), ["2"] * 4)
         self.assertIn("told/2026-03-08: differs: row 25 that was told is bumped,1,19, and gasday day tells bumped,1,20\n", error)
-        self.assertIn("kept/2026-03-08: differs: the posting of cycle 1 that is kept is not the one that is published\n", error)
+        self.assertIn("kept/2026-03-08: differs: the posting of cycle 1 that is kept is not the one that is published: row 6 of its"
+                      " body is sched,1,69, and not sched,1,70\n", error)
+
+    def test_what_an_archive_does_not_show(self) -> None:
+        """A posting that is deleted, one of another book, another class that no price looks at, another operator, another bump:
+        each archive is sound, and is not what its text gives."""
+        body = "cast(replace(cast(body as text), '{}', '{}') as blob)".format
+        for name, change, count, told in (
+                ("missing", "delete from posting2 where cycle = 2", "1", "day: differs: cycle 2 is published, and not kept"),
+                ("surplus", "insert into posting2 (book, cycle, round, body, rule) select 'OTHER', cycle, round, "
+                 f"{body(',DEMO,', ',OTHER,')}, rule from posting2", "4",
+                 "book OTHER: differs: it is kept, and no text that can be read is of this book"),
+                ("class", f"update posting2 set body = {body('D1,4,0,70', 'D1,7,0,70')} where cycle = 1", "2",
+                 "row 5 of its body is line,R1,D1,7,0,70, and not line,R1,D1,4,0,70"),
+                ("operator", f"update posting2 set body = {body(',OPR,', ',OPX,')} where cycle = 1", "2",
+                 "row 2 of its body is point,R1,receipt,A,OPX,1000, and not point,R1,receipt,A,OPR,1000"),
+                ("bumped", f"update posting2 set body = {body('bumped,1,20', 'bumped,1,1')} where cycle = 2", "2",
+                 "row 10 of its body is bumped,1,1, and not bumped,1,20")):
+            self.put(f"{name}/texts/day.csv", DAY.read_bytes())
+            self.gasday("day", "--archive", f"{name}/archive.db", text=DAY.read_bytes())
+            archive = sqlite3.connect(self.folder / name / "archive.db")
+            archive.execute(change)
+            archive.commit()
+            archive.close()
+            self.assertEqual(self.gasday("audit", f"{name}/archive.db", text=b"").decode(), f"audited,{count},,,,,,\n")
+            error, status = self.serial("days", name, "--archive")[1:]
+            self.assertEqual(status, 1)
+            self.assertIn(told + "\n", error)
 
     def test_a_study(self) -> None:
         """Some answers are held against certificate.py, and all against the totals of the base."""

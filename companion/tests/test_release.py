@@ -87,8 +87,8 @@ class Release(unittest.TestCase):
         log, made = self.folder / "log", []
         log.write_bytes(LOG)
         for name in ("one", "two"):
-            words = ("--dirty", PROGRAM, log, self.folder / name)
-            done = subprocess.run([sys.executable, TOP / "tests" / "make_release.py", *words], capture_output=True, text=True, timeout=600)
+            words = (TOP / "tests" / "make_release.py", "--dirty", PROGRAM, log, self.folder / name)
+            done = subprocess.run([sys.executable, *words], capture_output=True, text=True, timeout=600)
             self.assertEqual((done.stderr, done.returncode), ("", 0))
             made.append({path.name: path.read_bytes() for path in (self.folder / name).iterdir()})
         self.assertEqual(made[0], made[1])
