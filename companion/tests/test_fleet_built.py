@@ -66,8 +66,8 @@ class Built(FleetTest):
         self.assertEqual((cells_of(out, "verdict"), status), (["same", "differs", "differs", "differs"], 1))
         self.assertEqual(cells_of(out, "postings"), ["2"] * 4)
         self.assertIn("told/2026-03-08: differs: row 25 that was told is bumped,1,19, and gasday day tells bumped,1,20\n", error)
-        self.assertIn("kept/2026-03-08: differs: the posting of cycle 1 that is kept is not the one that is published: row 6 of its"
-                      " body is sched,1,69, and not sched,1,70\n", error)
+        self.assertIn("kept/2026-03-08: differs: the posting of cycle 1 that is kept is not the one that is published: row 6 of "
+                      "its body is sched,1,69, and not sched,1,70\n", error)
 
     def test_what_an_archive_does_not_show(self) -> None:
         """A posting that is deleted, one of another book, another class that no price looks at, another operator, another bump:
