@@ -112,10 +112,10 @@ def try_report(trial: Trial) -> None:
     archive = sqlite3.connect(trial.folder / "kept/archive.db")
     trial.put("posting.csv", archive.execute("select body from posting2 where cycle = 2").fetchone()[0])
     archive.close()
-    for question, answer in ((str(trial.example(QUESTION)), "answer.csv"), ("posting.csv", "posting.csv")):
-        trial.run(b"PASS  gasday check best", "gasday-report", question, answer)
-    trial.run(b"PASS  gasday day", "gasday-report", "--events", "kept/texts/day.csv", "--replies", "kept/told/day.csv")
-    trial.run(b"<!DOCTYPE html>", "gasday-report", trial.example(QUESTION), "answer.csv", "--format", "html")
+    question, day = str(trial.example(QUESTION)), ("--events", "kept/texts/day.csv", "--replies", "kept/told/day.csv")
+    for words in ((question, "answer.csv"), ("posting.csv", "posting.csv"), day, (question, "answer.csv", "--format", "html")):
+        if b"PASS" not in trial.run(b"", "gasday-report", *words):
+            raise Refused(f"gasday-report {' '.join(words)} doesn't tell PASS")
 
 
 def try_fleet(trial: Trial) -> None:

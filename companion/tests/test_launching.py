@@ -19,7 +19,8 @@ class Launching(ReportTest):
         """A program that passes each answer, and notes in which folder it stands."""
         folder.mkdir(parents=True, exist_ok=True)
         path = folder / "gasday"
-        path.write_text(f"#!/bin/sh\necho '{folder.name}' >> '{self.top}/ran'\ncat > /dev/null\nprintf '{TWO_LINES_TOLD}'\n")
+        path.write_text(f"#!/bin/sh\n[ \"$1\" != --version ] || {{ echo 'gasday 1.0.0 (of a test)'; exit; }}\n"
+                        f"echo '{folder.name}' >> '{self.top}/ran'\ncat > /dev/null\nprintf '{TWO_LINES_TOLD}'\n")
         path.chmod(0o755)
 
     def put_tools(self, companion: Path, audit: Path) -> None:
