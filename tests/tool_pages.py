@@ -38,7 +38,8 @@ BLOCK = re.compile(r"^```\n(.*?)^```$", re.M | re.S)
 CALLED = {"./gasday ": "gasday ", "companion/gasday-": "gasday-", "examples/audit ": "gasday-audit ",
           "companion/certificate.py ": "gasday-certificate "}
 # What stands for an argument that is neither a file nor one of some words.
-FREE = ("N", "SECONDS", "ADDRESS", "HOST", "PORT", "ZONE", "SCENARIO", "NAME", "TOKEN", "DATE", "BOOK", "CYCLE", "SHIPPER")
+FREE = ("N", "SECONDS", "ADDRESS", "HOST", "PORT", "ZONE", "SCENARIO", "NAME", "TOKEN", "DATE", "DAY", "BOOK", "CYCLE", "USER",
+        "PARTY", "ROLE")
 FOLDERS = ("FOLDER", "DIRECTORY")
 MADE = "Made by tests/tool_pages.py of what {} --help tells: change that, and not this file."
 NOT_PROVED = "This tool is tested, and not proved: what is proved is \\fBgasday\\fR(1)."
@@ -181,7 +182,7 @@ def sentence(text: str) -> str:
 
 def form(words: str) -> str:
     """Words of usage: what is filled in is italic, and what is written so bold."""
-    pieces = re.split(r"(--?[a-z][a-z-]*|\b[A-Z][A-Z0-9]*\b|\b[a-z]+\b)", words)
+    pieces = re.split(r"((?<![\w-])--?[a-z][a-z-]*|\b[A-Z][A-Z0-9]*\b|\b[a-z][a-z-]*\b)", words)
     styled = (rf"\fI{it}\fR" if it.isupper() else bold(literal(it)) if k % 2 else literal(it) for k, it in enumerate(pieces))
     return "".join(it for it in styled if it)
 
@@ -238,25 +239,39 @@ def groups(found: Help, level: str, but: Collection[str] = ()) -> Iterator[str]:
             yield from lines_of(sentence(item.text))
 
 
-def commands_of(tool: Tool, found: Help) -> Iterator[str]:
-    """The commands of a tool: what they do, the groups of options that all of them have, and each with its own."""
-    theirs = {command: help_of(told(tool, command), f"{tool.name} {command}") for command in found.commands}
-    first = next(iter(theirs.values()))
-    shared = [title for title in first.groups if title not in found.groups and len(theirs) > 1
-              and all(its.groups.get(title) == first.groups[title] for its in theirs.values())]
-    yield ".SH COMMANDS"
+def helps_of(tool: Tool, *words: str) -> dict[tuple[str, ...], Help]:
+    """What a tool tells, and what each command of it does, by the words that lead there."""
+    found = help_of(told(tool, *words), " ".join([tool.name, *words]))
+    helps = {words: found}
+    for command in found.commands:
+        helps |= helps_of(tool, *words, command)
+    return helps
+
+
+def listed(found: Help) -> Iterator[str]:
+    """What each command does."""
     for command, text in found.commands.items():
         yield f".IP {bold(literal(command))}"
         yield from lines_of(sentence(text))
+
+
+def commands_of(tool: Tool, helps: dict[tuple[str, ...], Help]) -> Iterator[str]:
+    """The commands of a tool: what they do, the groups of options that all of them have, and each with its own."""
+    theirs = {words: its for words, its in helps.items() if words}
+    first = next(iter(theirs.values()))
+    shared = [title for title in first.groups if title not in helps[()].groups and len(theirs) > 1
+              and all(its.groups.get(title) == first.groups[title] for its in theirs.values())]
+    yield ".SH COMMANDS"
+    yield from listed(helps[()])
     for title in shared:
         yield f'.SH "OPTIONS OF ALL COMMANDS: {title.upper()}"'
         yield from list(groups(Help("", groups={title: first.groups[title]}), "SH"))[1:]
-    for command, its in theirs.items():
-        yield f'.SH "COMMAND {command.upper()}"'
-        yield from synopsis(its.usage, f"{tool.name} {command}")
-        yield ".PP"
-        yield from paragraphs(its.before)
+    for words, its in theirs.items():
+        yield f'.SH "COMMAND {" ".join(words).upper()}"'
+        yield from synopsis(its.usage, " ".join([tool.name, *words]))
+        yield from [".PP", *paragraphs(its.before)] if its.before else []
         yield from groups(its, "SS", shared)
+        yield from [".SS commands", *listed(its)] if its.commands else []
 
 
 def examples(tool: Tool) -> list[str]:
@@ -273,14 +288,15 @@ def examples(tool: Tool) -> list[str]:
 
 def page(tool: Tool) -> str:
     """The manual page of a tool."""
-    found, others = help_of(told(tool), tool.name), [other.name for other in tools() if other != tool]
+    helps, others = helps_of(tool), [other.name for other in tools() if other != tool]
+    found = helps[()]
     texts, status = parted(found.before + found.behind)
     lines = [rf'.\" {MADE.format(tool.name)}', f'.TH {literal(tool.name.upper())} 1 "" gasday "User Commands"', ".nh", ".ad l"]
     lines += [".SH NAME", rf"{literal(tool.name)} \- {prose(tool.about.replace('`', ''))}"]
     lines += [".SH SYNOPSIS", *synopsis(found.usage, tool.name)]
     lines += [".SH DESCRIPTION", *paragraphs(texts), ".PP", NOT_PROVED]
     lines += groups(found, "SH")
-    lines += commands_of(tool, found) if found.commands else []
+    lines += commands_of(tool, helps) if found.commands else []
     if status:
         lines += ['.SH "EXIT STATUS"', *statuses(status)]
     shown = examples(tool)
@@ -325,11 +341,18 @@ class Offer:
         return kinds[0] if kinds else ""
 
 
-def offers(tool: Tool) -> dict[str, Offer]:
-    """What is offered behind the tool, which has no name here, and behind each of its commands."""
-    found = help_of(told(tool), tool.name)
-    behind = {name: Offer(help_of(told(tool, name), f"{tool.name} {name}")) for name in found.commands}
-    return {"": Offer(found), **behind}
+def offers(tool: Tool) -> dict[tuple[str, ...], Offer]:
+    """What is offered behind the tool and each of its commands, by the words that lead there: two at the most."""
+    offered = {words: Offer(its) for words, its in helps_of(tool).items()}
+    if any(len(words) > 2 for words in offered):
+        raise Fault(f"{tool.name} has commands of commands of commands")
+    return offered
+
+
+def bash_place(words: tuple[str, ...], offer: Offer) -> str:
+    """Where on the command line something is offered: the number of the word at the cursor, and the first two."""
+    number = str(len(words) + 1) if offer.found.commands else "*"
+    return ":".join([number, *words, *["*"] * (2 - len(words))])
 
 
 def in_bash(tool: Tool) -> str:
@@ -341,13 +364,13 @@ def in_bash(tool: Tool) -> str:
              "    local word=${COMP_WORDS[COMP_CWORD]} before=${COMP_WORDS[COMP_CWORD - 1]} offered='' files=''",
              "    COMPREPLY=()"]
     if len(offered) > 1:
-        lines += ["    case $COMP_CWORD:${COMP_WORDS[1]} in"]
-        for name, offer in offered.items():
+        lines += ["    case $COMP_CWORD:${COMP_WORDS[1]}:${COMP_WORDS[2]} in"]
+        for words, offer in offered.items():
             files = f" files={offer.files()}" if offer.files() else ""
-            lines.append(f"        {f'*:{name}' if name else '1:*'}) offered='{offer.words()}'{files} ;;")
+            lines.append(f"        {bash_place(words, offer)}) offered='{offer.words()}'{files} ;;")
         lines += ["    esac"]
     else:
-        lines.append(f"    offered='{offered[''].words()}' files={offered[''].files()}")
+        lines.append(f"    offered='{offered[()].words()}' files={offered[()].files()}")
     lines += ["    case $before in"]
     for files, names in (("-f", [name for name, value in values.items() if is_file(value) and value not in FOLDERS]),
                          ("-d", [name for name, value in values.items() if value in FOLDERS]),
@@ -395,22 +418,30 @@ def zsh_words(offer: Offer) -> Iterator[str]:
             yield zsh_word(f"{'*' if many else place}{zsh_value(item.value())}")
 
 
+def zsh_behind(offered: dict[tuple[str, ...], Offer], words: tuple[str, ...], indent: str) -> Iterator[str]:
+    """What is offered behind these words, and behind the commands that follow them."""
+    offer, joint, state = offered[words], f" \\\n{indent}    ", f"behind{len(words)}"
+    if not offer.found.commands:
+        yield indent + joint.join(["_arguments", *zsh_words(offer)])
+        return
+    commands = " ".join(f'{name}\\:"{zsh_text(text)}"' for name, text in offer.found.commands.items())
+    yield indent + joint.join(["_arguments -C", *zsh_words(offer), zsh_word(f"1:command:(({commands}))"), f"'*:: :->{state}'"])
+    yield f"{indent}[[ $state == {state} ]] || return"
+    yield f"{indent}case $words[1] in"
+    for name in offer.found.commands:
+        yield f"{indent}    {name})"
+        yield from zsh_behind(offered, (*words, name), indent + "        ")
+        yield f"{indent}        ;;"
+    yield f"{indent}esac"
+
+
 def in_zsh(tool: Tool) -> str:
     """The completions for zsh."""
-    offered, function, joint = offers(tool), "_" + tool.name.replace("-", "_"), " \\\n        "
+    function = "_" + tool.name.replace("-", "_")
     lines = [f"#compdef {tool.name}",
              f"# Completions of {tool.name} for zsh: put this file into a folder of $fpath. {MADE.format(tool.name)}", "",
-             f"{function}() {{", "    local context state state_descr line", "    typeset -A opt_args"]
-    first = list(zsh_words(offered[""]))
-    if len(offered) > 1:
-        commands = " ".join(f'{name}\\:"{zsh_text(text)}"' for name, text in offered[""].found.commands.items())
-        lines += ["    " + joint.join(["_arguments -C", *first, zsh_word(f"1:command:(({commands}))"), "'*:: :->rest'"]),
-                  "    [[ $state == rest ]] || return", "    case $words[1] in"]
-        lines += [f"        {name}) {(joint + '    ').join(['_arguments', *zsh_words(offer)])} ;;"
-                  for name, offer in offered.items() if name]
-        lines += ["    esac"]
-    else:
-        lines += ["    " + joint.join(["_arguments", *first])]
+             f"{function}() {{", "    local context state state_descr line", "    typeset -A opt_args",
+             *zsh_behind(offers(tool), (), "    ")]
     return "\n".join([*lines, "}", "", f'{function} "$@"']) + "\n"
 
 
@@ -429,19 +460,28 @@ def fish_value(value: str) -> str:
     return " -r -F" if is_file(value) else " -x"
 
 
+def fish_place(words: tuple[str, ...], offer: Offer) -> str:
+    """Where on the command line something is offered: behind these words, and before the commands that follow them."""
+    if not words:
+        return " -n __fish_use_subcommand" if offer.found.commands else ""
+    seen = [f"__fish_seen_subcommand_from {word}" for word in words]
+    seen += [f"not __fish_seen_subcommand_from {' '.join(offer.found.commands)}"] if offer.found.commands else []
+    return f" -n '{'; and '.join(seen)}'"
+
+
 def in_fish(tool: Tool) -> str:
     """The completions for fish."""
     offered, begin = offers(tool), f"complete -c {tool.name}"
     lines = [f"# Completions of {tool.name} for fish: put this file into a folder of $fish_complete_path.",
              f"# {MADE.format(tool.name)}", ""]
-    if len(offered) > 1 or offered[""].files() != "-f":
+    if len(offered) > 1 or offered[()].files() != "-f":
         lines.append(f"{begin} -f")
-    for name, offer in offered.items():
-        place = f" -n '__fish_seen_subcommand_from {name}'" if name else " -n __fish_use_subcommand" if len(offered) > 1 else ""
+    for words, offer in offered.items():
+        place = fish_place(words, offer)
         lines += [f"{begin}{place} -a {command} -d {fish_text(text)}" for command, text in offer.found.commands.items()]
         if offer.files() == "-d":
             lines.append(f"{begin}{place} -a '(__fish_complete_directories)'")
-        elif offer.files() and name:
+        elif offer.files() and words:
             lines.append(f"{begin}{place} -F")
         for option in offer.options():
             names = "".join(f" -l {it[2:]}" if it.startswith("--") else f" -s {it[1:]}" for it in option.names())

@@ -30,11 +30,13 @@ def told(name: str, *words: str) -> str:
 
 
 @lru_cache
-def helps(name: str) -> dict[str, set[str]]:
-    """The options that a tool, which has no name here, and each of its commands tell of."""
-    text = told(name)
-    texts = {"": text, **{command: told(name, command) for command in COMMAND.findall(text)}}
-    return {command: set(OPTION.findall(its)) | {"--help"} for command, its in texts.items()}
+def helps(name: str, *words: str) -> dict[tuple[str, ...], set[str]]:
+    """The options that a tool and each of its commands tell of, by the words that lead there."""
+    text = told(name, *words)
+    found = {words: set(OPTION.findall(text)) | {"--help"}}
+    for command in COMMAND.findall(text):
+        found |= helps(name, *words, command)
+    return found
 
 
 class Pages(unittest.TestCase):
@@ -70,8 +72,8 @@ class Completing(unittest.TestCase):
 
     def test_options(self) -> None:
         for name in SCRIPTS:
-            for command, options in helps(name).items():
-                self.assertEqual(self.offers(name, *filter(None, [command]), "--"), sorted(options), (name, command))
+            for words, options in helps(name).items():
+                self.assertEqual(self.offers(name, *words, "--"), sorted(options), (name, words))
 
     def test_values_and_arguments(self) -> None:
         self.assertEqual(self.offers("gasday-report", "--format", ""), ["csv", "html", "json", "text"])
