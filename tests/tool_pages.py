@@ -177,7 +177,7 @@ def lines_of(text: str) -> Iterator[str]:
 
 def sentence(text: str) -> str:
     """A text of a list as a sentence."""
-    return text[0].upper() + text[1:] + ("" if text.endswith(".") else ".")
+    return text[:1].upper() + text[1:] + ("" if text.endswith(".") or not text else ".")
 
 
 def form(words: str) -> str:
@@ -230,7 +230,7 @@ def statuses(text: str) -> Iterator[str]:
 def groups(found: Help, level: str, but: Collection[str] = ()) -> Iterator[str]:
     """Arguments and options, group by group, but for groups of these titles."""
     for title, items in found.groups.items():
-        shown = [item for item in items if item.text and title not in but]
+        shown = [item for item in items if (item.text or item.names()) and title not in but]
         if shown:
             words = "arguments" if title == "positional arguments" else title
             yield f".{level} {quoted(words.upper() if level == 'SH' else words)}"
