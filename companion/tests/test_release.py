@@ -75,6 +75,7 @@ class Release(unittest.TestCase):
     @unittest.skipUnless(shutil.which("dpkg-deb"), "dpkg-deb is not installed")
     def test_the_package_has_the_same_files_and_is_made_alike(self) -> None:
         prefix, release = self.install(), make_release.release_of(FAKE, LOG, True)
+        self.assertTrue(make_release.packed(release) == (self.folder / "a.tar.gz").read_bytes())
         packages = []
         for name in ("one", "two"):
             (self.folder / name).mkdir()
@@ -89,16 +90,17 @@ class Release(unittest.TestCase):
         self.assertEqual(set(line.split()[1] for line in told.splitlines()), {"root/root"})
 
     @unittest.skipUnless(os.access(PROGRAM, os.X_OK), "no program is built")
-    def test_a_whole_release_is_tried_and_made_alike(self) -> None:
-        log, made = self.folder / "log", []
+    def test_a_whole_release_is_tried(self) -> None:
+        log, made = self.folder / "log", self.folder / "made"
         log.write_bytes(LOG)
-        for name in ("one", "two"):
-            words = (TOP / "tests" / "make_release.py", "--dirty", PROGRAM, log, self.folder / name)
-            done = subprocess.run([sys.executable, *words], capture_output=True, text=True, timeout=600)
-            self.assertEqual((done.stderr, done.returncode), ("", 0))
-            made.append({path.name: sum_of(path) for path in (self.folder / name).iterdir()})
-        self.assertEqual(made[0], made[1])
-        self.assertEqual(len(made[0]), 4)
+        words = (TOP / "tests" / "make_release.py", "--dirty", PROGRAM, log, made)
+        done = subprocess.run([sys.executable, *words], capture_output=True, text=True, timeout=600)
+        self.assertEqual((done.stderr, done.returncode), ("", 0))
+        files = [path for path in sorted(made.iterdir()) if path.suffix != ".sha256"]
+        sums = [f"{sum_of(path)}  {path.name}\n" for path in files]
+        self.assertEqual([path.suffix for path in files], [".gz", *[".deb"] * bool(shutil.which("dpkg-deb"))])
+        self.assertEqual([(made / f"{path.name}.sha256").read_text() for path in files], sums)
+        self.assertEqual(done.stdout, "".join(sums))
 
 
 if __name__ == "__main__":
