@@ -4,9 +4,10 @@
 _gasday_import() {
     local word=${COMP_WORDS[COMP_CWORD]} before=${COMP_WORDS[COMP_CWORD - 1]} offered='' files=''
     COMPREPLY=()
-    offered='--strict --output --help' files=-f
+    offered='--strict --each --names --sheet --gasday --output --help' files=-f
     case $before in
-        --output | *[\<\>]*) offered='' files=-f ;;
+        --names | --gasday | --output | *[\<\>]*) offered='' files=-f ;;
+        --sheet) offered='' files= ;;
     esac
     mapfile -t COMPREPLY < <(compgen -W "$offered" -- "$word")
     if [ -n "$files" ]; then
