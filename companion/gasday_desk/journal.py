@@ -1,0 +1,170 @@
+"""What the desk keeps beside the books: who made which call by which form, and why calls are stopped.
+
+A call is entered with its token before it is sent. So a form that comes again, after whatever break, finds its own call, and is
+no second nomination. What the book holds is for its file alone to say.
+"""
+
+import sqlite3
+import threading
+from collections.abc import Iterable, Sequence
+from dataclasses import dataclass, replace
+from pathlib import Path
+from typing import NamedTuple
+
+from .rows import Row, lines_of, rows_in
+
+SENT, KEPT, FAULTY, LOST = "sent", "kept", "faulty", "lost"
+SCHEMA = """
+CREATE TABLE IF NOT EXISTS call (
+    id INTEGER PRIMARY KEY, book TEXT NOT NULL, token TEXT NOT NULL, user TEXT NOT NULL, role TEXT NOT NULL,
+    party TEXT NOT NULL, moment INTEGER NOT NULL, rows BLOB NOT NULL, number INTEGER, told BLOB NOT NULL,
+    state TEXT NOT NULL CHECK (state IN ('sent', 'kept', 'faulty', 'lost')), UNIQUE (book, token));
+CREATE UNIQUE INDEX IF NOT EXISTS numbered ON call (book, number) WHERE number IS NOT NULL;
+CREATE TABLE IF NOT EXISTS guard (one INTEGER PRIMARY KEY CHECK (one = 1), reason TEXT NOT NULL);
+INSERT OR IGNORE INTO guard VALUES (1, '');
+"""
+COLUMNS = "id, book, token, user, role, party, moment, rows, number, told, state"
+
+
+class Maker(NamedTuple):
+    """Who makes a call, and in which role and for which party."""
+
+    user: str
+    role: str
+    party: str
+
+
+@dataclass(frozen=True)
+class Entry:
+    """A call as it was sent. Its number is that of the call in the book's file, none where it isn't kept; what it was told is
+    held here where it is faulty, since then the file doesn't have it."""
+
+    id: int
+    book: str
+    token: str
+    maker: Maker
+    moment: int
+    rows: tuple[Row, ...]
+    number: int | None
+    told: tuple[Row, ...]
+    state: str
+
+    def kept_as(self, number: int) -> "Entry":
+        return replace(self, number=number, state=KEPT)
+
+    def faulty(self, told: Iterable[Row]) -> "Entry":
+        return replace(self, told=tuple(told), state=FAULTY)
+
+    def lost(self) -> "Entry":
+        return replace(self, state=LOST)
+
+
+def entry_of(record: Sequence[object]) -> Entry:
+    number, book, token, user, role, party, moment, rows, call, told, state = record
+    assert isinstance(number, int) and isinstance(moment, int) and isinstance(rows, bytes) and isinstance(told, bytes)
+    assert call is None or isinstance(call, int)
+    maker = Maker(str(user), str(role), str(party))
+    return Entry(number, str(book), str(token), maker, moment, tuple(rows_in(rows)), call, tuple(rows_in(told)), str(state))
+
+
+class Journal:
+    """The file, used by all threads in turn. Each change is on the disk before it counts."""
+
+    def __init__(self, path: Path) -> None:
+        self.lock = threading.Lock()
+        self.file = sqlite3.connect(path, isolation_level=None, check_same_thread=False, timeout=20)
+        self.file.execute("PRAGMA journal_mode = WAL")
+        self.file.execute("PRAGMA synchronous = FULL")
+        self.file.executescript(SCHEMA)
+
+    def close(self) -> None:
+        with self.lock:
+            self.file.close()
+
+    def find(self, book: str, token: str) -> Entry | None:
+        with self.lock:
+            record = self.file.execute(f"SELECT {COLUMNS} FROM call WHERE book = ? AND token = ?", (book, token)).fetchone()
+        return entry_of(record) if record else None
+
+    def of_form(self, book: str, token: str) -> list[Entry]:
+        """The calls of a form with several: each has the form's token with something behind a point."""
+        with self.lock:
+            records = self.file.execute(f"SELECT {COLUMNS} FROM call WHERE book = ? AND (token = ? OR substr(token, 1, ?) = ?)"
+                                        " ORDER BY id", (book, token, len(token) + 1, token + ".")).fetchall()
+        return [entry_of(record) for record in records]
+
+    def of_book(self, book: str) -> list[Entry]:
+        """All calls of a book, in the order in which they were sent."""
+        with self.lock:
+            records = self.file.execute(f"SELECT {COLUMNS} FROM call WHERE book = ? ORDER BY id", (book,)).fetchall()
+        return [entry_of(record) for record in records]
+
+    def last_moment(self) -> int:
+        with self.lock:
+            return int(self.file.execute("SELECT coalesce(max(moment), 0) FROM call").fetchone()[0])
+
+    def begin(self, entries: Sequence[Entry]) -> list[Entry]:
+        """Enters calls that are about to be sent, in one commit. A form whose call wasn't kept may be sent once more: that is
+        a new entry in the place of the old one."""
+        begun = []
+        with self.lock:
+            self.file.execute("BEGIN IMMEDIATE")
+            try:
+                for entry in entries:
+                    self.file.execute("DELETE FROM call WHERE book = ? AND token = ? AND state IN ('faulty', 'lost')",
+                                      (entry.book, entry.token))
+                    cursor = self.file.execute(
+                        "INSERT INTO call (book, token, user, role, party, moment, rows, number, told, state)"
+                        " VALUES (?, ?, ?, ?, ?, ?, ?, NULL, x'', 'sent')",
+                        (entry.book, entry.token, *entry.maker, entry.moment, lines_of(entry.rows)))
+                    begun.append(replace(entry, id=cursor.lastrowid or 0))
+                self.file.execute("COMMIT")
+            except BaseException:
+                self.file.execute("ROLLBACK")
+                raise
+        return begun
+
+    def settle(self, entries: Sequence[Entry]) -> None:
+        """Enters what became of calls that were sent."""
+        with self.lock:
+            self.file.execute("BEGIN IMMEDIATE")
+            try:
+                self.file.executemany("UPDATE call SET number = ?, told = ?, state = ? WHERE id = ?",
+                                      [(one.number, lines_of(one.told), one.state, one.id) for one in entries])
+                self.file.execute("COMMIT")
+            except BaseException:
+                self.file.execute("ROLLBACK")
+                raise
+
+    def reason(self) -> str:
+        """Why calls are stopped; nothing where they aren't."""
+        with self.lock:
+            return str(self.file.execute("SELECT reason FROM guard").fetchone()[0])
+
+    def keep_reason(self, reason: str) -> None:
+        with self.lock:
+            self.file.execute("UPDATE guard SET reason = ?", (reason,))
+
+
+def is_call(entry: Entry, call: Sequence[Row]) -> bool:
+    """Whether a call that the file keeps is the one that was sent. A settled cycle is kept as what it came to."""
+    sent, kept = entry.rows[-1], call[-1]
+    if sent[0] == "settle" and kept[0] in ("publish", "declare"):
+        return sent[1] == kept[1]
+    return tuple(entry.rows) == tuple(call)
+
+
+def resolved(entries: Sequence[Entry], calls: Sequence[Sequence[Row]]) -> list[Entry]:
+    """What became of the calls that were sent and not answered: those of the file that no entry has are theirs, in their
+    order, since the program keeps what it reads in its order."""
+    known = {entry.number for entry in entries}
+    free = [number for number in range(1, len(calls) + 1) if number not in known]
+    found, at = [], 0
+    for entry in (one for one in entries if one.state == SENT):
+        match = next((k for k in range(at, len(free)) if is_call(entry, calls[free[k] - 1])), None)
+        if match is None:
+            found.append(entry.lost())
+        else:
+            found.append(entry.kept_as(free[match]))
+            at = match + 1
+    return found
