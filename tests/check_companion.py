@@ -16,7 +16,7 @@ from pathlib import Path
 
 COMPANION = Path(__file__).resolve().parents[1] / "companion"
 THIS = str(Path(__file__).resolve())
-SCRIPTS = ["gasday-fleet", "gasday-import", "gasday-report", THIS]
+SCRIPTS = ["gasday-desk", "gasday-fleet", "gasday-import", "gasday-report", THIS]
 # Each reads companion/pyproject.toml, and leaves nothing behind.
 CHECKS = (
     ["mypy", "--strict", "--scripts-are-modules", f"--cache-dir={os.devnull}", ".", *SCRIPTS],

@@ -13,7 +13,7 @@ from pathlib import Path
 from helpers import TOP, TWO_LINES, TWO_LINES_ANSWER, TWO_LINES_TOLD, ReportTest
 
 COMPANION = TOP / "companion"
-COMMANDS = ("gasday-fleet", "gasday-import", "gasday-report")
+COMMANDS = ("gasday-desk", "gasday-fleet", "gasday-import", "gasday-report")
 HAS_BUILD = all(map(importlib.util.find_spec, ("pip", "setuptools", "wheel")))
 
 

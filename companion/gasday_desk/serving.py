@@ -1,0 +1,57 @@
+"""The server: waitress on one address, ended in order by SIGTERM and Ctrl-C."""
+
+import logging
+import logging.handlers
+import signal
+import sys
+from collections.abc import Callable
+from pathlib import Path
+from types import FrameType
+from typing import NoReturn
+
+from waitress.server import create_server
+
+from .desk import Desk
+from .web import MOST_BYTES, app_of
+
+# Each page that is told of changes has a thread for itself, see interface.MOST_STREAMS.
+THREADS = 96
+CONNECTIONS = 1000
+LOG_BYTES, LOG_FILES = 10_000_000, 10
+
+
+def log_to(folder: Path) -> None:
+    """Keeps a log of who was refused what, and of what went wrong; no password, token or cookie is in it."""
+    handler = logging.handlers.RotatingFileHandler(folder / "log" / "desk.log", maxBytes=LOG_BYTES, backupCount=LOG_FILES)
+    handler.setFormatter(logging.Formatter("%(asctime)s %(levelname)s %(name)s %(message)s"))
+    root = logging.getLogger()
+    root.setLevel(logging.INFO)
+    root.addHandler(handler)
+
+
+def end(number: int, frame: FrameType | None) -> NoReturn:
+    raise SystemExit(0)
+
+
+def serve(desk: Desk, host: str, port: int, ready: Callable[[], None]) -> None:
+    """Serves until it is told to end, and then ends after the calls at hand."""
+    server = create_server(app_of(desk), host=host, port=port, threads=THREADS, connection_limit=CONNECTIONS, ident="gasday-desk",
+                           max_request_body_size=MOST_BYTES, channel_timeout=60, send_bytes=1, expose_tracebacks=False)
+    signal.signal(signal.SIGTERM, end)
+    desk.start()
+    ready()
+    try:
+        server.run()
+    finally:
+        desk.close()
+        server.close()
+
+
+def run_desk(folder: Path, program: str | None) -> int:
+    desk = Desk(folder, program=program)
+    log_to(folder)
+    desk.wake()
+    settings = desk.settings
+    serve(desk, settings.host, settings.port, lambda: print(f"The desk of {folder} is http://{settings.host}:{settings.port}/",
+                                                            file=sys.stderr, flush=True))
+    return 0
