@@ -303,8 +303,9 @@ def receipt_of(view: DayView, viewer: Viewer, call: Call, entry: Entry | None, z
     cycle = int(told[2]) if told[0] in ("accepted", "frozen", "published", "declared") else None
     return {
         "book": view.opening.book, "call": call.number, "event": call.event, "kind": call.kind,
-        "moment": call.moment, "time": shown(call.moment, zone), "user": maker[0], "role": maker[1], "party": maker[2],
-        "cycle": cycle, "cycle_name": CYCLES.get(cycle or 0, ""), "line": call.line, "accepted": not call.is_refused,
+        "moment": call.moment, "time": shown(call.moment, zone), "user": maker[0], "role": maker[1],
+        "party": maker[2], "cycle": cycle, "cycle_name": CYCLES.get(cycle or 0, ""), "line": call.line,
+        "accepted": not call.is_refused,
         "asked": call_words(call), "told": told_of(call, viewer), "row": words_of(call.row),
         "reply": detail_rows(view, viewer, call), "sha256_of_rows": sha256_of(call.rows),
         "sha256_of_reply": sha256_of(call.told),

@@ -105,6 +105,8 @@ def user_of_token(header: str) -> User | None:
 
 def let_in() -> Answer | None:
     """Finds who comes, and lets in who may."""
+    if (request.content_length or 0) > MOST_BYTES:
+        abort(413, f"{MOST_BYTES} bytes are the most that is taken")
     header = request.headers.get("Authorization", "")
     g.by_token = bool(header)
     g.viewer = Viewer(user_of_token(header) if header else user_of_session())

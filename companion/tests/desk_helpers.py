@@ -15,7 +15,7 @@ from helpers import TOP
 
 from gasday_desk.clock import Clock
 from gasday_desk.command import make_folder
-from gasday_desk.people import hash_of
+from gasday_desk.people import scrypted
 from gasday_desk.settings import User, write_users
 from gasday_report.verdicts import BUILT
 
@@ -218,7 +218,8 @@ class DeskTest(unittest.TestCase):
 
 @lru_cache(maxsize=1)
 def hashed() -> str:
-    return hash_of(PASSWORD)
+    """The password's hash, made cheaply."""
+    return "scrypt:1024:8:1$salt$" + scrypted(PASSWORD, "salt", 1024)
 
 
 @lru_cache(maxsize=1)
