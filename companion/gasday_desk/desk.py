@@ -7,6 +7,7 @@ import logging
 import re
 import threading
 import time
+from collections import OrderedDict
 from collections.abc import Callable
 from functools import partial
 from pathlib import Path
@@ -25,6 +26,9 @@ from .view import Round
 
 LOG = logging.getLogger("gasday_desk")
 BOOK = re.compile(r"[A-Z0-9-]{1,7}-[0-9]{8}")
+# So many answers of rounds are kept at hand; and a day that nobody has asked for so long is closed until somebody does.
+MOST_SHOWN = 24
+CLOSED_SECONDS = 3600.0
 ALARM = Maker("alarm", "scheduler", "")
 
 
@@ -46,7 +50,8 @@ class Desk:
         self.lock = threading.Lock()
         self.opening = threading.Lock()
         self.keepers: dict[str, Keeper] = {}
-        self.shown: dict[tuple[str, int, str], Shown | CutShown] = {}
+        self.used: dict[str, float] = {}
+        self.shown: OrderedDict[tuple[str, int, str], Shown | CutShown] = OrderedDict()
         self.loads: dict[str, dict[str, int]] = {}
         self.rung: set[tuple[str, str]] = set()
         self.is_ending = threading.Event()
@@ -84,6 +89,7 @@ class Desk:
         """The open day of this book, opened if it isn't; none where there is no such book."""
         with self.lock:
             if book in self.keepers:
+                self.used[book] = self.clock.ticks()
                 return self.keepers[book]
         if not BOOK.fullmatch(book) or not self.folder.book_file(book).is_file():
             return None
@@ -93,7 +99,7 @@ class Desk:
                     return self.keepers[book]
             keeper = Keeper(self.program, self.folder.book_file(book), book, self.journal, self.guard, self.idle)
             with self.lock:
-                self.keepers[book] = keeper
+                self.keepers[book], self.used[book] = keeper, self.clock.ticks()
             return keeper
 
     def pipeline_of(self, book: str) -> Pipeline | None:
@@ -133,10 +139,13 @@ class Desk:
         """What was made once of a round that can't change any more."""
         with self.lock:
             if key in self.shown:
+                self.shown.move_to_end(key)
                 return self.shown[key]
         made = make()
         with self.lock:
             self.shown[key] = made
+            while len(self.shown) > MOST_SHOWN:
+                self.shown.popitem(last=False)
         return made
 
     def answer(self, keeper: Keeper, one: Round | None) -> Shown | None:
@@ -153,7 +162,7 @@ class Desk:
 
     def cut(self, keeper: Keeper, one: Round) -> CutShown:
         """A declared cut, with what waivers free."""
-        made = self.once((keeper.book, one.number, f"cut {len(keeper.view.waived)}"), lambda: cut_of(
+        made = self.once((keeper.book, one.number, "cut"), lambda: cut_of(
             self.program, keeper.view, one, keeper.kept_text()))
         assert isinstance(made, CutShown)
         return made
@@ -179,6 +188,7 @@ class Desk:
             try:
                 self.guard.look()
                 self.ring()
+                self.rest()
             except Exception:
                 LOG.exception("a fault of the alarms")
 
@@ -195,6 +205,15 @@ class Desk:
                     continue
                 self.rung.add((keeper.book, asked.token))
                 LOG.info("alarm: %s %s was told %s", keeper.book, asked.kind, words_of(told.told[0]) if told.told else "nothing")
+
+    def rest(self) -> None:
+        """Closes the days that are settled and that nobody has asked for for a while."""
+        with self.lock:
+            since = self.clock.ticks() - CLOSED_SECONDS
+            old = [book for book, keeper in self.keepers.items() if keeper.view.is_settled and self.used.get(book, 0) < since]
+            closed = [self.keepers.pop(book) for book in old]
+        for keeper in closed:
+            keeper.close()
 
     def open_keepers(self) -> list[Keeper]:
         with self.lock:

@@ -1,6 +1,7 @@
 """The interface for other programs: the same calls as JSON, and events that say that something changed."""
 
 import threading
+import time
 from collections.abc import Iterator
 from typing import Any
 
@@ -20,6 +21,7 @@ MOST_STREAMS = 64
 STREAMS = threading.Semaphore(MOST_STREAMS)
 # A stream says that it is there, and ends after a while; the browser comes again.
 ALIVE_SECONDS, STREAM_SECONDS = 15.0, 600.0
+PAUSE_SECONDS = 1.0
 
 
 @INTERFACE.route("/api/days/<book:book>/calls", methods=["POST"])
@@ -66,14 +68,17 @@ def events(book: str) -> Response:
 
 def stream_of(made: Desk, keeper: Keeper) -> Iterator[str]:
     yield "retry: 5000\n\n"
-    seen, until = -1, made.clock.ticks() + STREAM_SECONDS
-    while not made.is_ending.is_set() and made.clock.ticks() < until:
+    seen, until, quiet = -1, time.monotonic() + STREAM_SECONDS, 0.0
+    while not made.is_ending.is_set() and time.monotonic() < until:
         with keeper.changed:
             if keeper.version == seen:
-                keeper.changed.wait(ALIVE_SECONDS)
+                keeper.changed.wait(PAUSE_SECONDS)
             version = keeper.version
-        if version == seen:
-            yield ": here\n\n"
-        else:
+        quiet = quiet + PAUSE_SECONDS if version == seen else 0.0
+        if version != seen:
             seen = version
             yield f"event: changed\ndata: {version}\n\n"
+            made.is_ending.wait(PAUSE_SECONDS)  # what changes meanwhile is one event
+        elif quiet >= ALIVE_SECONDS:
+            quiet = 0.0
+            yield ": here\n\n"

@@ -26,6 +26,8 @@ from .view import Call, DayView, Opening, opening_of
 LOG = logging.getLogger("gasday_desk")
 # So many calls at most are entered and sent together.
 MOST_TOGETHER = 200
+# And so many at once of those that one asks for, so that a long file holds nobody up.
+FEW = 50
 OPENINGS = 5
 
 
@@ -97,12 +99,13 @@ class Keeper:
         return self.call_all([asked])[0]
 
     def call_all(self, several: Sequence[Asked]) -> list[Told]:
-        jobs: list[Job | Told] = []
+        told = []
         for asked in several:
             asked.rows(0)  # a field that can't be sent is told before anything is
-            known = self.known(asked)
-            jobs.append(known if known else self.put(Job(asked)))
-        return [job if isinstance(job, Told) else job.done.result() for job in jobs]
+        for at in range(0, len(several), FEW):
+            jobs = [self.known(asked) or self.put(Job(asked)) for asked in several[at:at + FEW]]
+            told += [job if isinstance(job, Told) else job.done.result() for job in jobs]
+        return told
 
     def known(self, asked: Asked) -> Told | None:
         """What became of a form's call, where it is kept. A form that came with something else then is told so."""

@@ -250,7 +250,8 @@ def responses_of(view: DayView, form: Mapping[str, str]) -> list[tuple[str, Wish
 @tabled("/days/<book:book>/calls", "calls")
 def calls(book: str) -> Made:
     keeper = day(book)
-    table = tables.call_table(keeper.view, viewer(), keeper.entries, desk().settings.clock)
+    most = None if g.ending else MOST_SHOWN
+    table = tables.call_table(keeper.view, viewer(), keeper.entries, desk().settings.clock, most)
     return answered(table, "calls.html", **of_day(keeper))
 
 

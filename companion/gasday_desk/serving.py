@@ -29,15 +29,19 @@ def log_to(folder: Path) -> None:
     root.addHandler(handler)
 
 
-def end(number: int, frame: FrameType | None) -> NoReturn:
-    raise SystemExit(0)
+def end_by_signal(desk: Desk) -> None:
+    """SIGTERM ends the server as Ctrl-C does."""
+    def end(number: int, frame: FrameType | None) -> NoReturn:
+        desk.is_ending.set()
+        raise SystemExit(0)
+    signal.signal(signal.SIGTERM, end)
 
 
 def serve(desk: Desk, host: str, port: int, ready: Callable[[], None]) -> None:
     """Serves until it is told to end, and then ends after the calls at hand."""
     server = create_server(app_of(desk), host=host, port=port, threads=THREADS, connection_limit=CONNECTIONS, ident="gasday-desk",
                            max_request_body_size=MOST_BYTES, channel_timeout=60, send_bytes=1, expose_tracebacks=False)
-    signal.signal(signal.SIGTERM, end)
+    end_by_signal(desk)
     desk.start()
     ready()
     try:

@@ -228,12 +228,13 @@ def element_table(answer: Shown | None) -> Table:
 
 def waiver_table(view: DayView, viewer: Viewer, cut: CutShown) -> Table:
     table = Table("waivers", "Whose waiver frees how much", columns(
-        *LINE, "shipper", "#floor", "#waived floor if waived", "#frees", "#left excess left by this set"))
+        *LINE, "shipper", "#floor", "#waived floor if waived", "#frees", "#left excess left by this set",
+        "waived"))
     for freed in cut.freed:
         line = view.lines[freed.line - 1]
         if viewer.sees_line(view, line, "impossible"):
             table.rows.append([*line_cells(line), view.opening.shipper_of(line.key.contract), freed.floor, freed.waived,
-                               freed.frees, max(0, cut.excess - freed.frees)])
+                               freed.frees, max(0, cut.excess - freed.frees), "waived" if freed.line in view.waived else ""])
     return table
 
 
@@ -267,11 +268,12 @@ def told_of(call: Call, viewer: Viewer) -> str:
     return head.removesuffix(", nothing scheduled") if not rest else head
 
 
-def call_table(view: DayView, viewer: Viewer, entries: Mapping[int, Entry], zone: str) -> Table:
-    table = Table("calls", "Calls", columns(">call", "moment", "user", "role", "party", "kind", "asked", "told", "event", "cycle"))
-    for call in view.calls:
-        if not viewer.sees_call(view, call):
-            continue
+def call_table(view: DayView, viewer: Viewer, entries: Mapping[int, Entry], zone: str, most: int | None = None) -> Table:
+    """All calls that are to be seen, or the last of them."""
+    table = Table("calls", "Calls", columns(">call", "moment", "user", "role", "party", "kind", "asked", "told", "event",
+                                            "cycle"))
+    seen = [call for call in list(view.calls) if viewer.sees_call(view, call)]
+    for call in seen[-most:] if most else seen:
         if call.is_refused:
             table.marks[len(table.rows)] = "refused"
         maker = entries[call.number].maker if call.number in entries else ("not by this desk", "", "")

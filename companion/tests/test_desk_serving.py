@@ -9,6 +9,7 @@ import subprocess
 import threading
 import time
 import unittest
+from pathlib import Path
 
 from desk_helpers import COMPANION, NO_SERVER, DeskTest, serving_python
 from desk_live import LiveDesk
@@ -59,8 +60,8 @@ class Serving(DeskTest):
         self.assertEqual(len(self.desk.kept()[0]), 2)
 
     def test_one_server_has_a_folder(self) -> None:
-        command = [serving_python() or "", COMPANION / "gasday-desk", "run", self.desk.folder, "--gasday", self.program]
-        done = subprocess.run(command, capture_output=True, timeout=60)
+        command: list[str | Path] = [serving_python() or "", COMPANION / "gasday-desk", "run", self.desk.folder]
+        done = subprocess.run([*command, "--gasday", self.program], capture_output=True, timeout=60)
         self.assertEqual(done.returncode, 2)
         self.assertIn(b"another gasday-desk runs", done.stderr)
 
@@ -99,7 +100,8 @@ class Serving(DeskTest):
     def test_events(self) -> None:
         """A page is told of a call at once."""
         connection = http.client.HTTPConnection("127.0.0.1", self.desk.port, timeout=30)
-        connection.request("GET", f"/days/{self.desk.book}/events", headers={"Authorization": f"Bearer {self.desk.tokens['sam']}"})
+        token = self.desk.tokens["sam"]
+        connection.request("GET", f"/days/{self.desk.book}/events", headers={"Authorization": f"Bearer {token}"})
         answer = connection.getresponse()
         self.assertEqual(answer.headers["Content-Type"].split(";")[0], "text/event-stream")
         self.assertIn(b"retry", answer.readline())

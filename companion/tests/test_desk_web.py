@@ -18,7 +18,8 @@ ROLES = {"s": "sue", "o": "ora", "c": "sam", "a": "aud"}
 # Each address, and who may come there: shippers, operators, the scheduler (c), auditors. All others get 403.
 ADDRESSES = (
     ("GET", "/", "soca"), ("GET", "/days", "soca"), ("GET", "/days.csv", "soca"), ("GET", DAY, "soca"),
-    ("GET", DAY + ".json", "soca"), ("GET", DAY + "/nominate", "s"), ("GET", DAY + "/confirm", "soca"), ("GET", DAY + "/confirm.csv", "soca"),
+    ("GET", DAY + ".json", "soca"), ("GET", DAY + "/nominate", "s"), ("GET", DAY + "/confirm", "soca"),
+    ("GET", DAY + "/confirm.csv", "soca"),
     ("GET", DAY + "/lines", "soca"), ("GET", DAY + "/lines.json", "soca"), ("GET", DAY + "/contracts", "sca"),
     ("GET", DAY + "/contracts.csv", "sca"), ("GET", DAY + "/capacities", "soca"), ("GET", DAY + "/schedules", "soca"),
     ("GET", DAY + "/schedules/1", "soca"), ("GET", DAY + "/schedules/1.json", "soca"),
@@ -37,7 +38,8 @@ WISH = {"contract": "FIRM", "package": "P", "origin": "R1", "destination": "D1",
 # With further addresses of the same views, and those that nobody needs to log in for.
 OTHERS = {"style", "script", "pages.login", "pages.public", "pages.public_csv", "pages.public_json", "pages.logout",
           "pages.upload", "interface.call", "pages.days_json", "pages.one_day_csv", "pages.confirm_json", "pages.lines_csv",
-          "pages.contracts_json", "pages.capacities_csv", "pages.capacities_json", "pages.schedules_csv", "pages.schedules_json", "pages.schedule_csv",
+          "pages.contracts_json", "pages.capacities_csv", "pages.capacities_json", "pages.schedules_csv",
+          "pages.schedules_json", "pages.schedule_csv",
           "pages.elements_json", "pages.impossible_csv", "pages.impossible_json", "pages.calls_csv", "pages.tomorrow_json"}
 
 

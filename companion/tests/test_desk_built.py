@@ -1,0 +1,132 @@
+"""The desk with the built program, where there is one, or the one that GASDAY names in the environment."""
+
+import contextlib
+import hashlib
+import io
+import os
+import re
+import shutil
+import sqlite3
+import subprocess
+import sys
+import tarfile
+import unittest
+from functools import lru_cache
+from pathlib import Path
+
+from desk_helpers import NO_SERVER, DeskTest, serving_python
+from helpers import TOP
+from test_desk_view import FALLING, FALLING_TOLD, falling
+
+from gasday_desk.answers import answer_of, cut_of, question_of, shown_of
+from gasday_desk.command import main
+from gasday_desk.demo import make_demo
+from gasday_desk.program import Program
+from gasday_desk.rows import of_kind, rows_in, told_groups_of
+
+HERE = Path(__file__).resolve().parent
+NO_BROWSER = ("no Python has Flask, waitress and Selenium, or there is no Chromium (apt-get install python3-selenium"
+              " chromium-driver)")
+
+
+@lru_cache(maxsize=1)
+def browser_python() -> str | None:
+    if not shutil.which("chromedriver"):
+        return None
+    for python in (sys.executable, shutil.which("python3", path="/usr/bin")):
+        if python and not subprocess.run([python, "-c", "import flask, selenium, waitress"], capture_output=True).returncode:
+            return python
+    return None
+
+
+class Built(DeskTest):
+    real = True
+
+    def ask(self) -> Program:
+        return Program(self.program)
+
+    def text_of_falling(self) -> bytes:
+        """The day in whose two last cycles a cut is declared, as its file keeps it."""
+        file = self.folder / "falling.book"
+        opening = ("segment,S1,A,B,100,,,\npoint,R1,receipt,A,OPR,1000,,\npoint,D1,delivery,B,OPD,1000,,\n"
+                   "contract,FIRM,SHIP,firm,100,R1,D1,\n" 'day,2026-03-08,"CST6CDT,M3.2.0,M11.1.0",DEMO,,,,\n')
+        text = (opening + FALLING).encode()
+        told = self.ask().ask("day", "--book", str(file), text=text).rows()
+        wanted = [row for group in told_groups_of(rows_in(FALLING_TOLD.encode())) for row in group if row[0] != "total"]
+        self.assertEqual([row for row in told[1:] if row[0] != "total"], wanted)
+        return self.ask().text_of(file)
+
+    def test_answers_are_those_of_the_archive(self) -> None:
+        """The question and answer that are made of what was told are those that the program keeps of a posting."""
+        text, view = self.text_of_falling(), falling()
+        self.ask().ask("day", "--archive", str(self.folder / "postings.db"), text=text)
+        with contextlib.closing(sqlite3.connect(self.folder / "postings.db")) as archive:
+            bodies = dict(archive.execute("select cycle, body from posting2"))
+        for cycle, body in bodies.items():
+            one = view.published(cycle)
+            assert one
+            made = question_of(view, one) + answer_of(view, one, text)
+            self.assertEqual(sorted(rows_in(made)), sorted(rows_in(bytes(body))))
+            shown = shown_of(self.ask(), question_of(view, one), answer_of(view, one, text), "x")
+            self.assertEqual([verdict.passed for verdict in shown.verdicts], [True, True])
+
+    def test_a_cut(self) -> None:
+        """By hand: 80 must leave A and R1 where 60 can. Waived in Intraday 2, line 1 keeps what flowed: 16 and 64 x 4 / 19,
+        which is 29."""
+        text, view = self.text_of_falling(), falling(11)
+        kept = self.ask().kept_in(text)
+        front = text[:text.index(b"waive,")]
+        cut = cut_of(self.ask(), view, view.rounds[3], front)
+        self.assertEqual((cut.excess, [tuple(one) for one in [(f.line, f.floor, f.waived, f.frees) for f in cut.freed]]),
+                         (20, [(1, 80, 29, 51)]))
+        self.assertEqual(len(kept.calls), 14)
+
+    def test_a_demo_and_its_export(self) -> None:
+        path = self.folder / "demo"
+        password = make_demo(path, self.program, "127.0.0.1:0")
+        self.assertRegex(password, "demo-[0-9a-f]{6}")
+        book = next((path / "books").glob("*.book"))
+        out = io.StringIO()
+        with contextlib.redirect_stdout(out):
+            self.assertEqual(main(["export", str(path), book.stem, "--gasday", self.program]), 0)
+        with tarfile.open(out.getvalue().strip()) as archive:
+            archive.extractall(self.folder / "out")
+        whole = self.folder / "out" / book.stem
+        for line in (whole / "SHA256SUMS").read_text().splitlines():
+            digest, name = line.split("  ")
+            self.assertEqual(hashlib.sha256((whole / name).read_bytes()).hexdigest(), digest)
+        self.assertEqual(self.ask().ask("audit", str(whole / f"{book.stem}.book")).first()[0], "replayed")
+        told = self.ask().ask("day", text=(whole / f"{book.stem}.csv").read_bytes()).out
+        self.assertEqual(told, (whole / "told.csv").read_bytes())
+        self.assertIn("anna,shipper,CITYGAS", (whole / "calls.csv").read_text())
+        self.assertEqual(len(of_kind(rows_in(told), "refused")), 0)
+
+    @unittest.skipUnless(serving_python(), NO_SERVER)
+    def test_kills(self) -> None:
+        """Six, of the server and the program in turn; all of the two hundred is for a free machine."""
+        done = self.script("kill_desk.py", serving_python(), "6", "4")
+        self.assertRegex(done, r"[0-9]+ answered, 0 differences\n$")
+
+    @unittest.skipUnless(browser_python(), NO_BROWSER)
+    def test_a_day_in_the_browser(self) -> None:
+        told = self.script("desk_browser.py", browser_python())
+        self.assertRegex(told, "[0-9]+ rows told on 32 receipts")
+
+    def script(self, name: str, python: str | None, *words: str) -> str:
+        done = subprocess.run([python or "", HERE / name, self.program, *words], capture_output=True, text=True, timeout=900,
+                              env={**os.environ, "PYTHONDONTWRITEBYTECODE": "1"})
+        self.assertEqual((done.returncode, done.stderr), (0, ""), done.stdout + done.stderr)
+        return done.stdout
+
+
+class Documents(unittest.TestCase):
+    def test_what_the_manual_names(self) -> None:
+        """Each setting that DESK.md tells is one that is read, and each command one that is there."""
+        text = (TOP / "docs" / "DESK.md").read_text()
+        settings = (TOP / "companion" / "gasday_desk" / "settings.py").read_text()
+        for name in re.findall(r"^\| `([a-z_.]+)` \|", text, re.M):
+            self.assertIn(f'"{name.rpartition(".")[2]}"', settings)
+
+
+if __name__ == "__main__":
+    unittest.main()
