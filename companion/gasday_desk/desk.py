@@ -49,6 +49,7 @@ class Desk:
         self.tries = Tries(self.clock)
         self.lock = threading.Lock()
         self.opening = threading.Lock()
+        self.making = threading.RLock()
         self.keepers: dict[str, Keeper] = {}
         self.used: dict[str, float] = {}
         self.shown: OrderedDict[tuple[str, int, str], Shown | CutShown] = OrderedDict()
@@ -141,7 +142,11 @@ class Desk:
             if key in self.shown:
                 self.shown.move_to_end(key)
                 return self.shown[key]
-        made = make()
+        with self.making:
+            with self.lock:
+                if key in self.shown:
+                    return self.shown[key]
+            made = make()
         with self.lock:
             self.shown[key] = made
             while len(self.shown) > MOST_SHOWN:

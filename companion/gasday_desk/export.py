@@ -11,7 +11,8 @@ from pathlib import Path
 
 from .answers import answer_of, question_of, save, shown_of
 from .journal import Journal
-from .program import Failed, Kept, Program, program_at, written
+from .keeper import wanted_file
+from .program import BUSY_PAUSE, Failed, Kept, Program, program_at, written
 from .rows import line_of, sha256_of, words_of
 from .settings import Folder, Wrong, settings_of
 from .view import DayView, opening_of
@@ -31,11 +32,19 @@ SHA256SUMS     of all of these; `sha256sum -c SHA256SUMS`
 
 
 def copy_book(source: Path, target: Path, seconds: float = SECONDS) -> None:
-    """A copy of the file between two of its commits. Who has the file is waited for: a desk gives it back when it rests."""
+    """A copy of the file between two of its commits. Who has the file is waited for: a desk gives it back when it is wanted."""
     until = time.monotonic() + seconds
+    wanted_file(source).touch()
+    try:
+        copy_when_free(source, target, until)
+    finally:
+        wanted_file(source).unlink(missing_ok=True)
+
+
+def copy_when_free(source: Path, target: Path, until: float) -> None:
     while True:
         try:
-            book, copy = sqlite3.connect(f"{source.resolve().as_uri()}?mode=ro", uri=True, timeout=1), sqlite3.connect(target)
+            book, copy = sqlite3.connect(f"{source.resolve().as_uri()}?mode=ro", uri=True, timeout=0), sqlite3.connect(target)
             try:
                 book.backup(copy)
                 return
@@ -45,7 +54,8 @@ def copy_book(source: Path, target: Path, seconds: float = SECONDS) -> None:
         except sqlite3.OperationalError as error:
             if "locked" not in str(error) or time.monotonic() > until:
                 raise Failed(f"{source} can't be copied: {error}; is a desk busy with it? try again") from None
-            time.sleep(0.2)
+            time.sleep(BUSY_PAUSE)
+            wanted_file(source).touch()
         except sqlite3.Error as error:
             raise Failed(f"{source} can't be copied: {error}") from None
 

@@ -20,6 +20,7 @@ CREATE TABLE IF NOT EXISTS call (
     party TEXT NOT NULL, moment INTEGER NOT NULL, rows BLOB NOT NULL, number INTEGER, told BLOB NOT NULL,
     state TEXT NOT NULL CHECK (state IN ('sent', 'kept', 'faulty', 'lost')), UNIQUE (book, token));
 CREATE UNIQUE INDEX IF NOT EXISTS numbered ON call (book, number) WHERE number IS NOT NULL;
+CREATE INDEX IF NOT EXISTS lost ON call (book) WHERE state = 'lost';
 CREATE TABLE IF NOT EXISTS guard (one INTEGER PRIMARY KEY CHECK (one = 1), reason TEXT NOT NULL);
 INSERT OR IGNORE INTO guard VALUES (1, '');
 """
@@ -91,6 +92,13 @@ class Journal:
         with self.lock:
             records = self.file.execute(f"SELECT {COLUMNS} FROM call WHERE book = ? AND (token = ? OR substr(token, 1, ?) = ?)"
                                         " ORDER BY id", (book, token, len(token) + 1, token + ".")).fetchall()
+        return [entry_of(record) for record in records]
+
+    def not_kept(self, book: str) -> list[Entry]:
+        """The calls of a book that were sent and that its file doesn't keep, the last ones first."""
+        with self.lock:
+            records = self.file.execute(f"SELECT {COLUMNS} FROM call WHERE book = ? AND state = 'lost' ORDER BY id DESC"
+                                        " LIMIT 100", (book,)).fetchall()
         return [entry_of(record) for record in records]
 
     def of_book(self, book: str) -> list[Entry]:

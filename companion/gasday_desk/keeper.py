@@ -9,6 +9,7 @@ import contextlib
 import logging
 import sqlite3
 import threading
+import time
 from collections.abc import Sequence
 from concurrent.futures import Future
 from dataclasses import dataclass, field
@@ -19,7 +20,7 @@ from typing import NamedTuple
 from .clock import Guard
 from .coprocess import Coprocess, Ended
 from .journal import KEPT, LOST, SENT, Entry, Journal, Maker, resolved
-from .program import Failed, Program, written
+from .program import BUSY_PAUSE, BUSY_SECONDS, Busy, Failed, Program, written
 from .rows import Row, row_of
 from .view import Call, DayView, Opening, opening_of
 
@@ -29,6 +30,7 @@ MOST_TOGETHER = 200
 # And so many at once of those that one asks for, so that a long file holds nobody up.
 FEW = 50
 OPENINGS = 5
+LENT_SECONDS = 10.0
 
 
 class Refused(Exception):
@@ -161,6 +163,16 @@ class Keeper:
                 return
             if jobs:
                 self.do(jobs)
+            if wanted_file(self.file).exists():
+                self.lend()
+
+    def lend(self) -> None:
+        """Gives the file to somebody who copies it, for as long as it is wanted, but not for long."""
+        self.give_back()
+        wanted, until = wanted_file(self.file), time.monotonic() + LENT_SECONDS
+        while wanted.exists() and time.monotonic() < until:
+            time.sleep(BUSY_PAUSE)
+        wanted.unlink(missing_ok=True)
 
     def do(self, jobs: Sequence[Job]) -> None:
         """Does jobs, and answers each whatever happens."""
@@ -298,13 +310,24 @@ class Keeper:
         for _ in range(OPENINGS):
             if self.run is None:
                 with contextlib.suppress(Ended):
-                    self.run = Coprocess(self.program.path, self.file)
+                    self.run = self.begun()
             elif self.run.process.poll() is None:
                 return self.run
             if self.run and self.run.process.poll() is None and self.run.calls == len(self.view.calls):
                 return self.run
             self.resolve([])
         raise Failed(f"{self.file.name} can't be opened: the program ends, or others make calls, again and again")
+
+    def begun(self) -> Coprocess:
+        """A program that has the file; who else has it is waited for."""
+        until = time.monotonic() + BUSY_SECONDS
+        while True:
+            try:
+                return Coprocess(self.program.path, self.file)
+            except Busy:
+                if time.monotonic() > until:
+                    raise
+                time.sleep(BUSY_PAUSE)
 
     def take_turn(self) -> None:
         """Gives the file back and reads its text."""
@@ -323,6 +346,11 @@ class Keeper:
         if self.run:
             self.run.process.kill()
         self.give_back()
+
+
+def wanted_file(book: Path) -> Path:
+    """Where this file is, somebody wants to copy the book meanwhile."""
+    return book.with_suffix(".wanted")
 
 
 NOTHING = Entry(0, "", "", Maker("", "", ""), 0, (), None, (), SENT)

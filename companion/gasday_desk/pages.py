@@ -252,7 +252,9 @@ def calls(book: str) -> Made:
     keeper = day(book)
     most = None if g.ending else MOST_SHOWN
     table = tables.call_table(keeper.view, viewer(), keeper.entries, desk().settings.clock, most)
-    return answered(table, "calls.html", **of_day(keeper))
+    user = viewer().user
+    lost = [one for one in keeper.journal.not_kept(book) if viewer().sees_all("calls") or (user and one.maker.user == user.name)]
+    return answered(table, "calls.html", **of_day(keeper), lost=lost, words_of=words_of)
 
 
 def receipt_or_none(keeper: Keeper, number: int) -> dict[str, Any]:

@@ -40,7 +40,8 @@ def end_by_signal(desk: Desk) -> None:
 def serve(desk: Desk, host: str, port: int, ready: Callable[[], None]) -> None:
     """Serves until it is told to end, and then ends after the calls at hand."""
     server = create_server(app_of(desk), host=host, port=port, threads=THREADS, connection_limit=CONNECTIONS, ident="gasday-desk",
-                           max_request_body_size=MOST_BYTES, channel_timeout=60, send_bytes=1, expose_tracebacks=False)
+                           max_request_body_size=MOST_BYTES, channel_timeout=60, expose_tracebacks=False,
+                           clear_untrusted_proxy_headers=not desk.settings.proxies)
     end_by_signal(desk)
     desk.start()
     ready()

@@ -30,6 +30,7 @@ LOG = logging.getLogger("gasday_desk.requests")
 HERE = Path(__file__).resolve().parent
 MOST_BYTES = 4_000_000
 HOURS = 12
+MOST_LETTERS = 1000  # of a password
 # A page asks for nothing from outside, and runs and shows nothing that isn't this server's own.
 POLICY = ("default-src 'none'; style-src 'self'; script-src 'self'; img-src 'self'; connect-src 'self'; form-action 'self';"
           " frame-ancestors 'none'; base-uri 'none'")
@@ -41,7 +42,7 @@ HEADERS = {"X-Content-Type-Options": "nosniff", "X-Frame-Options": "DENY", "Refe
 # So many passwords are looked at together, since each takes 32 MB.
 PASSWORDS = threading.Semaphore(4)
 # What needs no login.
-OPEN = ("login", "style", "script", "public", "public_csv", "public_json", "static")
+OPEN = ("login", "style", "script", "public", "public_csv", "public_json")
 
 
 class Missing(Exception):
@@ -151,7 +152,7 @@ def log_in(name: str, password: str) -> User | None:
         abort(429, "too many wrong passwords; try again in a minute")
     user = desk().users().get(name)
     with PASSWORDS:
-        is_right = is_password(password, user.password if user else NOBODY)
+        is_right = len(password) <= MOST_LETTERS and is_password(password, user.password if user else NOBODY)
     if user is None or not is_right:
         LOG.warning("wrong password: user %r, address %s", name[:64], address)
         return None

@@ -81,7 +81,7 @@ def make_desk(folder: Path, program: str, clock: HandClock) -> Desk:
 @contextmanager
 def served(desk: Desk) -> Iterator[str]:
     """The desk's server in a thread of its own; its address."""
-    server: Any = create_server(app_of(desk), host="127.0.0.1", port=0, threads=16, send_bytes=1)
+    server: Any = create_server(app_of(desk), host="127.0.0.1", port=0, threads=16)
     threading.Thread(target=server.run, daemon=True).start()
     try:
         yield f"http://127.0.0.1:{server.effective_port}"
