@@ -324,6 +324,49 @@ class Office(PagesTest):
         self.assertIn("firm", CONTRACTS)
 
 
+class Settled(PagesTest):
+    """Desks with other settings."""
+
+    def change(self, old: str, new: str) -> None:
+        path = self.path / "desk.toml"
+        path.write_text(path.read_text().replace(old, new))
+        self.desk.close()
+        self.desk = self.start()
+
+    def test_alarms(self) -> None:
+        """Each cycle is frozen at its confirmation time and settled then, by the alarm; not twice, and not before."""
+        self.change("[[pipeline]]", "alarms = {freeze = true, settle = true}\n[[pipeline]]")
+        self.browser("sue").nominate()
+        for moment, kinds in ((1772922599, ""), (1772922600, "freeze"), (1772922601, "freeze settle"),
+                              (1772922700, "freeze settle")):
+            self.clock.pass_to(moment)
+            self.desk.ring()
+            rows = self.browser("aud").json(f"{DAY}/calls.json")["rows"][1:]
+            self.assertEqual([(row["user"], row["kind"]) for row in rows], [("alarm", kind) for kind in kinds.split()])
+
+    def test_who_comes_through_a_proxy(self) -> None:
+        """Its address is what the proxy says, where there is one; else nobody is believed."""
+        import logging
+        logging.disable(logging.NOTSET)
+        for proxies, address in ((0, "127.0.0.1"), (1, "192.0.2.7")):
+            self.change("[[pipeline]]" if proxies else "?", f"proxies = {proxies}\n[[pipeline]]")
+            with self.assertLogs("gasday_desk") as logs:
+                self.browser().get(f"{DAY}/lines.json", X_Forwarded_For="192.0.2.7")
+            self.assertIn(f"address {address}, ", logs.output[0])
+
+    def test_settings_that_are_wrong(self) -> None:
+        """The file, what is wrong and what is wanted, with status 2."""
+        for text, words in (("listen = 7", "listen has to be a text"), ("colour = 1", "colour is not known"), ("=", "is no TOML"),
+                            ('clock = "Nowhere/City"', "there is no zone Nowhere/City"),
+                            ("https = 1", "https has to be true or false"),
+                            ('[[pipeline]]\nname = "x"\nbook = "TOOLONGNAME"\nzone = "z"', "pipeline 1: book has to be")):
+            (self.path / "desk.toml").write_text(text)
+            with contextlib.redirect_stderr(io.StringIO()) as told:
+                self.assertEqual(main(["export", str(self.path), BOOK]), 2)
+            self.assertIn(words, told.getvalue())
+            self.assertIn("desk.toml", told.getvalue())
+
+
 class Programs(PagesTest):
     """The interface for other programs."""
 
