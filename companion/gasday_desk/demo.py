@@ -7,6 +7,7 @@ import csv
 import io
 import os
 import secrets
+import shutil
 import sys
 import webbrowser
 from collections.abc import Iterator
@@ -173,6 +174,17 @@ def check_texts() -> None:
             raise Wrong(f"{row} has {len(row)} fields")
 
 
+def make_whole(folder: Path, program: str | None, listen: str) -> None:
+    """Makes the demo, or leaves no folder behind."""
+    is_new = not folder.exists()
+    try:
+        write_whole(folder / "password", make_demo(folder, program, listen).encode(), 0o600)
+    except BaseException:
+        if is_new:
+            shutil.rmtree(folder, ignore_errors=True)
+        raise
+
+
 def run_demo(folder: Path, program: str | None, listen: str) -> int:
     from .serving import log_to, serve
     kept = folder / "password"
@@ -181,8 +193,7 @@ def run_demo(folder: Path, program: str | None, listen: str) -> int:
             raise Wrong(f"{folder} has a desk that is no demo; `gasday-desk run {folder}` runs it")
     else:
         check_texts()
-        write_password = make_demo(folder, program, listen)
-        write_whole(kept, write_password.encode(), 0o600)
+        make_whole(folder, program, listen)
     desk = Desk(folder, program=program)
     log_to(folder)
     desk.wake()

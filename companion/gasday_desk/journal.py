@@ -155,11 +155,12 @@ class Journal:
 
 
 def is_call(entry: Entry, call: Sequence[Row]) -> bool:
-    """Whether a call that the file keeps is the one that was sent. A settled cycle is kept as what it came to."""
+    """Whether a call that the file keeps is the one that was sent. A settled cycle is kept as what it came to, and of a group
+    with a faulty row what stands behind it."""
     sent, kept = entry.rows[-1], call[-1]
     if sent[0] == "settle" and kept[0] in ("publish", "declare"):
         return sent[1] == kept[1]
-    return tuple(entry.rows) == tuple(call)
+    return entry.rows[-len(call):] == tuple(call)
 
 
 def resolved(entries: Sequence[Entry], calls: Sequence[Sequence[Row]]) -> list[Entry]:

@@ -31,6 +31,7 @@ MOST_TOGETHER = 200
 FEW = 50
 OPENINGS = 5
 LENT_SECONDS = 10.0
+LOOK_SECONDS = 0.5
 
 
 class Refused(Exception):
@@ -151,18 +152,20 @@ class Keeper:
     # What its own thread does.
 
     def serve(self) -> None:
+        rested = time.monotonic()
         while True:
             with self.waiting:
                 if not self.jobs and not self.is_ending:
-                    self.waiting.wait(self.idle)
+                    self.waiting.wait(min(self.idle, LOOK_SECONDS))
                 jobs, self.jobs = self.jobs[:MOST_TOGETHER], self.jobs[MOST_TOGETHER:]
                 is_over = self.is_ending and not jobs
-            if not jobs:
+            if jobs:
+                self.do(jobs)
+                rested = time.monotonic()
+            elif is_over or time.monotonic() >= rested + self.idle:
                 self.give_back()  # so that others may audit the file meanwhile
             if is_over:
                 return
-            if jobs:
-                self.do(jobs)
             if wanted_file(self.file).exists():
                 self.lend()
 
@@ -200,7 +203,6 @@ class Keeper:
 
     def make(self, jobs: Sequence[Job]) -> None:
         """Enters calls, sends them, and answers each once it is kept."""
-        run = self.opened()
         fresh = self.unanswered(jobs)
         if not fresh:
             return
@@ -213,17 +215,22 @@ class Keeper:
         entries = [Entry(0, self.book, job.asked.token, job.asked.maker, moment, job.asked.rows(moment), None, (), SENT)
                    for job in fresh if job.asked]
         entries = self.journal.begin(entries)
+        for job, entry in zip(fresh, self.send(run, entries), strict=True):
+            job.done.set_result(self.told_of(entry))
+
+    def send(self, run: Coprocess, entries: Sequence[Entry]) -> list[Entry]:
+        """What became of calls that are sent now."""
         settled: list[Entry] = []
         try:
             for entry, told in zip(entries, run.ask([entry.rows for entry in entries]), strict=True):
                 settled.append(self.take(entry, told))
         except Ended:
             LOG.warning("book %s: the program ended, and the file is opened again", self.book)
-            settled = self.resolve(entries)
-        else:
-            self.note(settled)
-        for job, entry in zip(fresh, settled, strict=True):
-            job.done.set_result(self.told_of(entry))
+            return self.resolve(entries)
+        if any(entry.state == SENT for entry in settled):
+            return self.resolve(entries)
+        self.note(settled)
+        return settled
 
     def unanswered(self, jobs: Sequence[Job]) -> list[Job]:
         """The jobs whose form hasn't been answered meanwhile; a form that stands twice among them is sent once."""
@@ -252,11 +259,12 @@ class Keeper:
         return self.known(asked)
 
     def take(self, entry: Entry, told: Sequence[Row]) -> Entry:
-        """Takes what a call was told into the view."""
+        """Takes what a call was told into the view. Where it is faulty nothing was kept; but a call behind a faulty row of its
+        group was made without it, so that the file has to be read for what it keeps."""
         if not told or any(row[0] == "fault" for row in told):
             if told and told[-1][:2] == ("fault", "0"):
                 raise Ended  # the run ends with it, and only the file says what is kept
-            return entry.faulty(told)
+            return entry.faulty(told) if all(row[0] == "fault" for row in told) else entry
         with self.changed:
             call = self.view.add(entry.rows, told)
             entry = entry.kept_as(call.number)

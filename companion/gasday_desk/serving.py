@@ -12,6 +12,7 @@ from typing import NoReturn
 from waitress.server import create_server
 
 from .desk import Desk
+from .program import Failed
 from .web import MOST_BYTES, app_of
 
 # Each page that is told of changes has a thread for itself, see interface.MOST_STREAMS.
@@ -39,9 +40,14 @@ def end_by_signal(desk: Desk) -> None:
 
 def serve(desk: Desk, host: str, port: int, ready: Callable[[], None]) -> None:
     """Serves until it is told to end, and then ends after the calls at hand."""
-    server = create_server(app_of(desk), host=host, port=port, threads=THREADS, connection_limit=CONNECTIONS, ident="gasday-desk",
-                           max_request_body_size=MOST_BYTES, channel_timeout=60, expose_tracebacks=False,
-                           clear_untrusted_proxy_headers=not desk.settings.proxies)
+    try:
+        server = create_server(
+            app_of(desk), host=host, port=port, threads=THREADS, connection_limit=CONNECTIONS, ident="gasday-desk",
+            max_request_body_size=MOST_BYTES, channel_timeout=60, expose_tracebacks=False,
+            clear_untrusted_proxy_headers=not desk.settings.proxies)
+    except OSError as error:
+        desk.close()
+        raise Failed(f"{host}:{port} can't be listened on: {error.strerror}; `listen` in desk.toml names another one") from None
     end_by_signal(desk)
     desk.start()
     ready()

@@ -19,10 +19,13 @@ from helpers import TOP
 from test_desk_view import FALLING, FALLING_TOLD, falling
 
 from gasday_desk.answers import answer_of, cut_of, question_of, shown_of
+from gasday_desk.clock import Guard
 from gasday_desk.command import main
 from gasday_desk.demo import make_demo
+from gasday_desk.journal import Journal, Maker
+from gasday_desk.keeper import Asked, Keeper
 from gasday_desk.program import Program
-from gasday_desk.rows import of_kind, rows_in, told_groups_of
+from gasday_desk.rows import of_kind, row_of, rows_in, told_groups_of
 
 HERE = Path(__file__).resolve().parent
 NO_BROWSER = ("no Python has Flask, waitress and Selenium, or there is no Chromium (apt-get install python3-selenium"
@@ -80,6 +83,24 @@ class Built(DeskTest):
         self.assertEqual((cut.excess, [tuple(one) for one in [(f.line, f.floor, f.waived, f.frees) for f in cut.freed]]),
                          (20, [(1, 80, 29, 51)]))
         self.assertEqual(len(kept.calls), 14)
+
+    def test_a_group_with_a_fault(self) -> None:
+        """The call behind it is made without the group and kept as refused; what comes then has the file's numbers."""
+        file = self.folder / "group.book"
+        self.make_book(file)
+        journal = Journal(self.folder / "desk.db")
+        self.addCleanup(journal.close)
+        keeper = Keeper(self.ask(), file, "GROUP", journal, Guard(self.clock, lambda reason: None))
+        self.addCleanup(keeper.close)
+        maker = Maker("sam", "scheduler", "PIPE")
+        self.clock.pass_to(1772922600)
+        told = [keeper.call(Asked("freeze", (), maker, "form-1")),
+                keeper.call(Asked("publish", ("1",), maker, "form-2", (row_of("sched", 7, 70), row_of("price", "S1", 4, 1)))),
+                keeper.call(Asked("publish", ("1",), maker, "form-3", (row_of("sched", 1, "X"),))),
+                keeper.call(Asked("settle", (), maker, "form-4"))]
+        self.assertEqual([one.call.number if one.call else 0 for one in told], [1, 2, 3, 4])
+        self.assertEqual([one.told[0][0] for one in told], ["frozen", "refused", "refused", "published"])
+        self.assertEqual([one.entry.state for one in told], ["kept"] * 4)
 
     def test_a_demo_and_its_export(self) -> None:
         path = self.folder / "demo"
