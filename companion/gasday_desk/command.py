@@ -3,7 +3,6 @@
 import argparse
 import getpass
 import os
-import secrets
 import sys
 from collections.abc import Sequence
 from pathlib import Path
@@ -47,7 +46,6 @@ def make_folder(path: Path, settings: str = SETTINGS) -> None:
         raise Wrong(f"{path} has a desk already; `gasday-desk run {path}` runs it")
     for name in FOLDERS:
         (path / name).mkdir(mode=0o750, parents=True, exist_ok=True)
-    write_whole(path / "secret", secrets.token_bytes(32), 0o600)
     write_whole(path / "users.toml", b"", 0o600)
     write_whole(path / "desk.toml", settings.encode(), 0o644)
 

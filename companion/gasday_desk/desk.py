@@ -5,6 +5,7 @@ import fcntl
 import io
 import logging
 import re
+import secrets
 import threading
 import time
 from collections import OrderedDict
@@ -21,7 +22,7 @@ from .keeper import Keeper, Refused
 from .people import Tries
 from .program import Failed, program_at, written
 from .rows import Row, words_of
-from .settings import FOLDERS, Folder, Pipeline, User, Wrong, settings_of, users_of
+from .settings import FOLDERS, Folder, Pipeline, User, Wrong, settings_of, users_of, write_whole
 from .view import Round
 
 LOG = logging.getLogger("gasday_desk")
@@ -43,7 +44,7 @@ class Desk:
         self.idle = idle
         make_folders(self.folder)
         self.held = hold(self.folder)
-        self.secret = self.folder.at("secret").read_bytes()
+        self.secret = secret_of(self.folder)
         self.journal = Journal(self.folder.at("desk.db"))
         self.guard = Guard(self.clock, self.journal.keep_reason, self.journal.reason(), self.journal.last_moment())
         self.tries = Tries(self.clock)
@@ -245,6 +246,14 @@ class Desk:
 def make_folders(folder: Folder) -> None:
     for name in FOLDERS:
         folder.at(name).mkdir(mode=0o750, parents=True, exist_ok=True)
+
+
+def secret_of(folder: Folder) -> bytes:
+    """What sessions are signed with; made anew where it is gone."""
+    path = folder.at("secret")
+    if not path.exists():
+        write_whole(path, secrets.token_bytes(32), 0o600)
+    return path.read_bytes()
 
 
 def hold(folder: Folder) -> IO[bytes]:
