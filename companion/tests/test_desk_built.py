@@ -93,12 +93,13 @@ class Built(DeskTest):
         keeper = Keeper(self.ask(), file, "GROUP", journal, Guard(self.clock, lambda reason: None))
         self.addCleanup(keeper.close)
         maker = Maker("sam", "scheduler", "PIPE")
+        keeper.call(Asked("nominate", ("SHIP", "FIRM", "P", "R1", "D1", "70"), maker, "form-0"))
         self.clock.pass_to(1772922600)
         told = [keeper.call(Asked("freeze", (), maker, "form-1")),
                 keeper.call(Asked("publish", ("1",), maker, "form-2", (row_of("sched", 7, 70), row_of("price", "S1", 4, 1)))),
                 keeper.call(Asked("publish", ("1",), maker, "form-3", (row_of("sched", 1, "X"),))),
                 keeper.call(Asked("settle", (), maker, "form-4"))]
-        self.assertEqual([one.call.number if one.call else 0 for one in told], [1, 2, 3, 4])
+        self.assertEqual([one.call.number if one.call else 0 for one in told], [2, 3, 4, 5])
         self.assertEqual([one.told[0][0] for one in told], ["frozen", "refused", "refused", "published"])
         self.assertEqual([one.entry.state for one in told], ["kept"] * 4)
 
