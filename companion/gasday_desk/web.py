@@ -20,7 +20,7 @@ from .calls import Forbidden, Unclear
 from .clock import Stopped
 from .desk import Desk
 from .keeper import Keeper, Refused, Resent
-from .moments import shown
+from .moments import shown, shown_short
 from .people import NOBODY, is_password, token_hash
 from .permissions import PAGES, Viewer
 from .program import Failed
@@ -42,7 +42,7 @@ HEADERS = {"X-Content-Type-Options": "nosniff", "X-Frame-Options": "DENY", "Refe
 # So many passwords are looked at together, since each takes 32 MB.
 PASSWORDS = threading.Semaphore(4)
 # What needs no login.
-OPEN = ("login", "style", "script", "public", "public_csv", "public_json")
+OPEN = ("login", "style", "script", "icon", "public", "public_csv", "public_json")
 
 
 class Missing(Exception):
@@ -222,7 +222,7 @@ class BookConverter(BaseConverter):
 def context() -> dict[str, Any]:
     found = desk()
     return {"viewer": g.get("viewer", Viewer(None)), "title": found.settings.title, "csrf": csrf, "stopped": found.guard.reason,
-            "form_token": lambda: secrets.token_urlsafe(16), "moment": lambda at: shown(at, found.settings.clock),
+            "form_token": lambda: secrets.token_urlsafe(16), "moment": lambda at: shown(at, found.settings.clock), "short": lambda at: shown_short(at, found.settings.clock),
             "clock": found.settings.clock}
 
 
@@ -232,6 +232,11 @@ def style() -> Response:
 
 def script() -> Response:
     return own_file("desk.js", "text/javascript")
+
+
+def icon() -> tuple[str, int]:
+    """There is none, and browsers ask for one."""
+    return "", 204
 
 
 def own_file(name: str, kind: str) -> Response:
@@ -255,6 +260,7 @@ def app_of(made: Desk) -> Flask:
     app.extensions["desk"] = made
     app.add_url_rule("/desk.css", "style", style)
     app.add_url_rule("/desk.js", "script", script)
+    app.add_url_rule("/favicon.ico", "icon", icon)
     app.register_blueprint(pages.PAGES)
     app.register_blueprint(interface.INTERFACE)
     app.before_request(let_in)

@@ -9,6 +9,7 @@ It needs Flask, waitress, Selenium and Chromium (Debian: python3-flask python3-w
 exit status is 0 only where all was as it has to be.
 """
 
+import contextlib
 import os
 import sys
 import tempfile
@@ -22,6 +23,7 @@ from typing import Any
 from desk_helpers import PASSWORD, HandClock, hashed
 from helpers import TOP
 from selenium import webdriver
+from selenium.common.exceptions import WebDriverException
 from selenium.webdriver.common.by import By
 from selenium.webdriver.support.ui import Select
 from waitress.server import create_server
@@ -47,7 +49,8 @@ BOOK = "NORTH-20260115"
 DAY = f"/days/{BOOK}"
 # examples/README.md: what lines 1, 2 and 3 are scheduled for in each cycle; Intraday 2 is skipped.
 SCHEDULED = {1: [30000, 15000, 0], 2: [40000, 10000, 0], 3: [33917, 2083, 0], 5: [36917, 2083, 0]}
-BUMPED = {2: {2: 5000}}
+# By hand: what each had before and was confirmed, less what it gets.
+BUMPED = {2: {2: 15000 - 10000}, 3: {1: 40000 - 33917, 2: 10000 - 2083}}
 WIDE, NARROW = (1280, 900), (390, 844)
 SECONDS = 20.0
 
@@ -128,7 +131,15 @@ class People:
         self.driver.get(self.address + address)
 
     def text(self) -> str:
-        return str(self.driver.find_element(By.TAG_NAME, "body").text)
+        """What the page shows; one that is on its way is waited for."""
+        until = time.monotonic() + SECONDS
+        while True:
+            try:
+                return str(self.driver.find_element(By.TAG_NAME, "body").text)
+            except WebDriverException:
+                if time.monotonic() > until:
+                    raise
+                time.sleep(0.05)
 
     def fill(self, name: str, value: str) -> None:
         field = self.driver.find_element(By.NAME, name)
@@ -141,12 +152,17 @@ class People:
         select.select_by_index(values.index(value))
 
     def press(self, words: str) -> None:
-        """Presses a button or follows a link of these words."""
+        """Presses a button or follows a link of these words, and waits for the page that comes."""
         found = self.driver.find_elements(
             By.XPATH, f"//main//button[normalize-space()='{words}']|//main//a[normalize-space()='{words}']")
         need(found, f"there is no button '{words}' on {self.driver.current_url}: {self.text()[:600]}")
         self.driver.execute_script("arguments[0].scrollIntoView({block: 'center'})", found[0])
         found[0].click()
+        until = time.monotonic() + SECONDS
+        with contextlib.suppress(WebDriverException):
+            while time.monotonic() < until:
+                found[0].is_enabled()  # until it belongs to a page that has gone
+                time.sleep(0.05)
 
     def wait_for(self, words: str) -> None:
         until = time.monotonic() + SECONDS
@@ -198,7 +214,7 @@ class People:
         self.choose("element", row[2])
         self.fill("capacity", row[3])
         self.press("Post")
-        need("done as event" in self.text(), f"not posted: {self.text()[:400]}")
+        need("done, as event" in self.text(), f"not posted: {self.text()[:400]}")
 
     def name(self) -> str:
         view = self.desk.keepers[BOOK].view
@@ -223,12 +239,12 @@ class People:
             need(words in self.text(), f"'{words}' isn't on the page of the cut: {self.text()[:900]}")
         self.look("impossible")
         self.press(f"Waive line {row[2]}")
-        need("done as event" in self.text(), f"not waived: {self.text()[:400]}")
+        need("done, as event" in self.text(), f"not waived: {self.text()[:400]}")
 
     def skip(self, row: list[str]) -> None:
         self.be("sam", f"{DAY}/impossible")
         self.press(f"Skip {self.name()}")
-        need("done as event" in self.text(), f"not skipped: {self.text()[:400]}")
+        need("done, as event" in self.text(), f"not skipped: {self.text()[:400]}")
 
 
 def open_day(people: People) -> None:

@@ -36,7 +36,7 @@ ADDRESSES = (
 WISH = {"contract": "FIRM", "package": "P", "origin": "R1", "destination": "D1", "quantity": "7", "line": "1", "end": "origin",
         "element": "S1", "capacity": "90", "round": "1"}
 # With further addresses of the same views, and those that nobody needs to log in for.
-OTHERS = {"style", "script", "pages.login", "pages.public", "pages.public_csv", "pages.public_json", "pages.logout",
+OTHERS = {"style", "script", "icon", "pages.login", "pages.public", "pages.public_csv", "pages.public_json", "pages.logout",
           "pages.upload", "interface.call", "pages.days_json", "pages.one_day_csv", "pages.confirm_json", "pages.lines_csv",
           "pages.contracts_json", "pages.capacities_csv", "pages.capacities_json", "pages.schedules_csv",
           "pages.schedules_json", "pages.schedule_csv",
