@@ -250,7 +250,7 @@ def public_table(view: DayView, answer: Shown | None, contracted: Mapping[str, i
             room = rooms.get(one.name)
             if room == 0:
                 table.marks[len(table.rows)] = "full"
-            table.rows.append([one.name, one.kind, capacity, capacity - contracted.get(one.name, 0), room,
+            table.rows.append([one.name, one.kind, capacity, max(0, capacity - contracted.get(one.name, 0)), room,
                                "full" if room == 0 else ""])
     return table
 

@@ -222,7 +222,8 @@ class BookConverter(BaseConverter):
 def context() -> dict[str, Any]:
     found = desk()
     return {"viewer": g.get("viewer", Viewer(None)), "title": found.settings.title, "csrf": csrf, "stopped": found.guard.reason,
-            "form_token": lambda: secrets.token_urlsafe(16), "moment": lambda at: shown(at, found.settings.clock), "short": lambda at: shown_short(at, found.settings.clock),
+            "form_token": lambda: secrets.token_urlsafe(16), "moment": lambda at: shown(at, found.settings.clock),
+            "short": lambda at: shown_short(at, found.settings.clock),
             "clock": found.settings.clock}
 
 
