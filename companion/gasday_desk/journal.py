@@ -69,7 +69,7 @@ def entry_of(record: Sequence[object]) -> Entry:
 
 
 class Journal:
-    """The file, used by all threads in turn. Each change is on the disk before it counts."""
+    """The file, used by all threads in turn. A call is on the disk before it is sent."""
 
     def __init__(self, path: Path) -> None:
         self.lock = threading.Lock()
@@ -133,8 +133,10 @@ class Journal:
         return begun
 
     def settle(self, entries: Sequence[Entry]) -> None:
-        """Enters what became of calls that were sent."""
+        """Enters what became of calls that were sent. This isn't waited for to be on the disk: what a power cut takes of it is
+        found in the book's file again."""
         with self.lock:
+            self.file.execute("PRAGMA synchronous = NORMAL")
             self.file.execute("BEGIN IMMEDIATE")
             try:
                 self.file.executemany("UPDATE call SET number = ?, told = ?, state = ? WHERE id = ?",
@@ -143,6 +145,8 @@ class Journal:
             except BaseException:
                 self.file.execute("ROLLBACK")
                 raise
+            finally:
+                self.file.execute("PRAGMA synchronous = FULL")
 
     def reason(self) -> str:
         """Why calls are stopped; nothing where they aren't."""
