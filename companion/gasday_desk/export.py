@@ -1,5 +1,6 @@
 """A gas day in one archive: its text, its file, its answers, who made which call, and the reports; with hashes."""
 
+import contextlib
 import csv
 import hashlib
 import io
@@ -103,8 +104,15 @@ def write_day(program: Program, journal: Journal, book: str, source: Path, folde
     (folder / "README").write_text(README.format(book=book), encoding="utf-8")
 
 
+def close_files(folder: Path) -> None:
+    """Brings what stands in the logs beside the SQLite files into them, and the logs away."""
+    for path in [*folder.glob("*.book"), *folder.glob("*.db")]:
+        with contextlib.closing(sqlite3.connect(path)) as file:
+            file.execute("PRAGMA wal_checkpoint(TRUNCATE)")
+
+
 def write_sums(folder: Path) -> None:
-    files = sorted(path for path in folder.rglob("*") if path.is_file() and not path.name.endswith(("-wal", "-shm")))
+    files = sorted(path for path in folder.rglob("*") if path.is_file())
     lines = [f"{hashlib.sha256(path.read_bytes()).hexdigest()}  {path.relative_to(folder)}\n" for path in files]
     (folder / "SHA256SUMS").write_text("".join(lines), encoding="utf-8")
 
@@ -122,6 +130,7 @@ def export_day(path: Path, book: str, program: str | None, output: Path | None) 
             whole = Path(name) / book
             whole.mkdir()
             write_day(program_at(program or settings.program), journal, book, folder.book_file(book), whole)
+            close_files(whole)
             write_sums(whole)
             new = target.with_name(target.name + ".new")
             with tarfile.open(new, "w:gz") as archive:

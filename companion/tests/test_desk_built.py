@@ -114,6 +114,7 @@ class Built(DeskTest):
         with tarfile.open(out.getvalue().strip()) as archive:
             archive.extractall(self.folder / "out")
         whole = self.folder / "out" / book.stem
+        self.assertEqual([path.name for path in whole.iterdir() if path.name.endswith(("-wal", "-shm"))], [])
         for line in (whole / "SHA256SUMS").read_text().splitlines():
             digest, name = line.split("  ")
             self.assertEqual(hashlib.sha256((whole / name).read_bytes()).hexdigest(), digest)
