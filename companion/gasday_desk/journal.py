@@ -6,7 +6,8 @@ no second nomination. What the book holds is for its file alone to say.
 
 import sqlite3
 import threading
-from collections.abc import Iterable, Sequence
+from collections.abc import Iterable, Iterator, Sequence
+from contextlib import contextmanager
 from dataclasses import dataclass, replace
 from pathlib import Path
 from typing import NamedTuple
@@ -115,38 +116,37 @@ class Journal:
         """Enters calls that are about to be sent, in one commit. A form whose call wasn't kept may be sent once more: that is
         a new entry in the place of the old one."""
         begun = []
-        with self.lock:
-            self.file.execute("BEGIN IMMEDIATE")
-            try:
-                for entry in entries:
-                    self.file.execute("DELETE FROM call WHERE book = ? AND token = ? AND state IN ('faulty', 'lost')",
-                                      (entry.book, entry.token))
-                    cursor = self.file.execute(
-                        "INSERT INTO call (book, token, user, role, party, moment, rows, number, told, state)"
-                        " VALUES (?, ?, ?, ?, ?, ?, ?, NULL, x'', 'sent')",
-                        (entry.book, entry.token, *entry.maker, entry.moment, lines_of(entry.rows)))
-                    begun.append(replace(entry, id=cursor.lastrowid or 0))
-                self.file.execute("COMMIT")
-            except BaseException:
-                self.file.execute("ROLLBACK")
-                raise
+        with self.transaction():
+            for entry in entries:
+                self.file.execute("DELETE FROM call WHERE book = ? AND token = ? AND state IN ('faulty', 'lost')",
+                                  (entry.book, entry.token))
+                cursor = self.file.execute(
+                    "INSERT INTO call (book, token, user, role, party, moment, rows, number, told, state)"
+                    " VALUES (?, ?, ?, ?, ?, ?, ?, NULL, x'', 'sent')",
+                    (entry.book, entry.token, *entry.maker, entry.moment, lines_of(entry.rows)))
+                begun.append(replace(entry, id=cursor.lastrowid or 0))
         return begun
 
     def settle(self, entries: Sequence[Entry]) -> None:
         """Enters what became of calls that were sent. This isn't waited for to be on the disk: what a power cut takes of it is
         found in the book's file again."""
+        with self.transaction("NORMAL"):
+            self.file.executemany("UPDATE call SET number = ?, told = ?, state = ? WHERE id = ?",
+                                  [(one.number, lines_of(one.told), one.state, one.id) for one in entries])
+
+    @contextmanager
+    def transaction(self, synchronous: str = "FULL") -> Iterator[None]:
+        """All that is done within is entered, or nothing of it; some faults, as a full disk, have taken it back already."""
         with self.lock:
-            self.file.execute("PRAGMA synchronous = NORMAL")
+            self.file.execute(f"PRAGMA synchronous = {synchronous}")
             self.file.execute("BEGIN IMMEDIATE")
             try:
-                self.file.executemany("UPDATE call SET number = ?, told = ?, state = ? WHERE id = ?",
-                                      [(one.number, lines_of(one.told), one.state, one.id) for one in entries])
+                yield
                 self.file.execute("COMMIT")
             except BaseException:
-                self.file.execute("ROLLBACK")
+                if self.file.in_transaction:
+                    self.file.execute("ROLLBACK")
                 raise
-            finally:
-                self.file.execute("PRAGMA synchronous = FULL")
 
     def reason(self) -> str:
         """Why calls are stopped; nothing where they aren't."""
@@ -154,7 +154,7 @@ class Journal:
             return str(self.file.execute("SELECT reason FROM guard").fetchone()[0])
 
     def keep_reason(self, reason: str) -> None:
-        with self.lock:
+        with self.transaction():
             self.file.execute("UPDATE guard SET reason = ?", (reason,))
 
 
