@@ -187,8 +187,8 @@ class Keeper:
                 self.take_turn()
         except (Failed, Refused, OSError, sqlite3.Error) as error:
             LOG.error("book %s: %s", self.book, error)
-            words = f"the office of {self.book} can't go on: {error}. Send the form again once it can: a call that is kept stays one"
-            self.refuse(jobs, Refused(words))
+            self.refuse(jobs, Refused(f"the office of {self.book} can't go on: {error}. Send the form again once it can; if its"
+                                      " call is kept it stays the one call"))
         except BaseException as error:
             LOG.exception("book %s: a fault of the desk", self.book)
             self.drop()

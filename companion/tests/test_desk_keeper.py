@@ -117,6 +117,16 @@ class Kept(DeskTest):
             self.assertEqual(kept[one.call.number - 1].split(",")[4], f"P{at}")
             self.assertEqual(kept[one.call.number - 1], ",".join(one.entry.rows[-1]))
 
+    def test_a_server_that_dies_before_it_sends(self) -> None:
+        """The next one finds that the call isn't kept, shows it, and takes it by the same form."""
+        entry = Entry(0, BOOK, "form-1", SUE, 1772910000, nomination("form-1").rows(1772910000), None, (), SENT)
+        self.journal.begin([entry])
+        self.keeper.close()
+        self.keeper = self.open()
+        self.assertEqual([one.rows for one in self.journal.not_kept(BOOK)], [entry.rows])
+        self.assertEqual(self.keeper.call(nomination("form-1")).told[0][:2], ("accepted", "1"))
+        self.assertEqual((self.journal.not_kept(BOOK), len(self.rows_kept())), ([], 1))
+
     def test_others_make_calls_meanwhile(self) -> None:
         """Once the desk rests the file is free; what others did is seen before the next call is told."""
         self.keeper.call(nomination("form-1"))
