@@ -167,6 +167,16 @@ def is_call(entry: Entry, call: Sequence[Row]) -> bool:
     return entry.rows[-len(call):] == tuple(call)
 
 
+def has(calls: Sequence[Sequence[Row]], entry: Entry) -> bool:
+    """Whether these calls have the entry's at its number."""
+    return entry.number is not None and entry.number <= len(calls) and is_call(entry, calls[entry.number - 1])
+
+
+def missing(entries: Sequence[Entry], calls: Sequence[Sequence[Row]]) -> Entry | None:
+    """The first call that was told as kept and that the file doesn't have at its number."""
+    return next((entry for entry in entries if entry.state == KEPT and not has(calls, entry)), None)
+
+
 def resolved(entries: Sequence[Entry], calls: Sequence[Sequence[Row]]) -> list[Entry]:
     """What became of the calls that were sent and not answered: those of the file that no entry has are theirs, in their
     order, since the program keeps what it reads in its order."""

@@ -19,7 +19,7 @@ from typing import NamedTuple
 
 from .clock import Guard
 from .coprocess import Coprocess, Ended
-from .journal import KEPT, LOST, SENT, Entry, Journal, Maker, resolved
+from .journal import KEPT, LOST, SENT, Entry, Journal, Maker, missing, resolved
 from .program import BUSY_PAUSE, BUSY_SECONDS, Busy, Failed, Program, written
 from .rows import Row, row_of
 from .view import Call, DayView, Opening, opening_of
@@ -296,6 +296,10 @@ class Keeper:
         kept = self.program.kept_by(self.file)
         view = DayView(self.opening_of(kept.opening))
         entries = self.journal.of_book(self.book)
+        lacking = missing(entries, kept.calls)
+        if lacking:
+            raise Failed(f"{self.file.name} lacks call {lacking.number} as it was told to {lacking.maker.user}, so it is not the"
+                         " file that this desk kept; bring that one back")
         found = resolved(entries, kept.calls)
         if found:
             self.journal.settle(found)

@@ -14,7 +14,7 @@ from desk_helpers import BOOK, DeskTest
 from gasday_desk.clock import Clock, Guard, Stopped
 from gasday_desk.journal import FAULTY, KEPT, LOST, SENT, Entry, Journal, Maker, resolved
 from gasday_desk.keeper import Asked, Keeper, Resent, Told
-from gasday_desk.program import Program
+from gasday_desk.program import Failed, Program
 from gasday_desk.rows import Row, row_of
 
 SUE = Maker("sue", "shipper", "SHIP")
@@ -126,6 +126,23 @@ class Kept(DeskTest):
         self.assertEqual([one.rows for one in self.journal.not_kept(BOOK)], [entry.rows])
         self.assertEqual(self.keeper.call(nomination("form-1")).told[0][:2], ("accepted", "1"))
         self.assertEqual((self.journal.not_kept(BOOK), len(self.rows_kept())), ([], 1))
+
+    def test_an_older_file(self) -> None:
+        """A file that lacks what was told is not served."""
+        self.keeper.call(nomination("form-1"))
+        self.keeper.close()
+        older = self.file.read_bytes()
+        self.keeper = self.open()
+        self.keeper.call(nomination("form-2", "5", "Q"))
+        self.keeper.close()
+        whole = self.file.read_bytes()
+        for data in (older, whole.replace(b"Q,R1,D1,5", b"Q,R1,D1,6")):
+            self.file.write_bytes(data)
+            with self.assertRaisesRegex(Failed, "lacks call 2 as it was told to sue"):
+                self.open()
+        self.file.write_bytes(whole)
+        self.keeper = self.open()
+        self.assertEqual(len(self.keeper.view.calls), 2)
 
     def test_others_make_calls_meanwhile(self) -> None:
         """Once the desk rests the file is free; what others did is seen before the next call is told."""
