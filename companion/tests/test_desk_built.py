@@ -144,11 +144,16 @@ class Built(DeskTest):
 
 class Documents(unittest.TestCase):
     def test_what_the_manual_names(self) -> None:
-        """Each setting that DESK.md tells is one that is read, and each command one that is there."""
+        """Each setting that DESK.md tells is one that is read, and each that is read is told."""
         text = (TOP / "docs" / "DESK.md").read_text()
-        settings = (TOP / "companion" / "gasday_desk" / "settings.py").read_text()
-        for name in re.findall(r"^\| `([a-z_.]+)` \|", text, re.M):
-            self.assertIn(f'"{name.rpartition(".")[2]}"', settings)
+        table = text[text.index("| Setting | |"):].partition("\n\n")[0]
+        told = {name for row in table.splitlines()[2:] for name in re.findall("`([a-z_.]+)`", row.split("|")[1])}
+        code = (TOP / "companion" / "gasday_desk" / "settings.py").read_text()
+        plain = re.findall(r"\bfields\.(?:text|truth|number)\(\"([a-z_]+)\"", code[:code.index("def user_of")])
+        alarms = re.findall(r"\balarms\.(?:text|truth|number)\(\"([a-z_]+)\"", code)
+        pipeline = {"name", "book", "zone"}
+        read = {*(name for name in plain if name not in pipeline), *(f"alarms.{name}" for name in alarms)}
+        self.assertEqual(told, read | {f"pipeline.{name}" for name in pipeline})
 
 
 if __name__ == "__main__":
