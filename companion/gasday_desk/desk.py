@@ -56,6 +56,7 @@ class Desk:
         self.shown: OrderedDict[tuple[str, int, str], Shown | CutShown] = OrderedDict()
         self.loads: dict[str, dict[str, int]] = {}
         self.rung: set[tuple[str, str]] = set()
+        self.warned = ""
         self.is_ending = threading.Event()
         self.users_state = self.state_of_users()
 
@@ -207,10 +208,16 @@ class Desk:
                 try:
                     told = keeper.call(asked)
                 except (Stopped, Refused) as error:
-                    LOG.warning("alarm: %s %s is not made: %s", keeper.book, asked.kind, error)
+                    self.warn_once(f"alarm: {keeper.book} {asked.kind} is not made: {error}")
                     continue
                 self.rung.add((keeper.book, asked.token))
                 LOG.info("alarm: %s %s was told %s", keeper.book, asked.kind, words_of(told.told[0]) if told.told else "nothing")
+
+    def warn_once(self, words: str) -> None:
+        """Logs what would be the same each second."""
+        if words != self.warned:
+            self.warned = words
+            LOG.warning("%s", words)
 
     def rest(self) -> None:
         """Closes the days that are settled and that nobody has asked for for a while."""
