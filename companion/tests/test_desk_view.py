@@ -8,14 +8,17 @@ from helpers import TOP
 
 from gasday_desk.alarms import look_at, reminders
 from gasday_desk.answers import answer_of, question_of
+from gasday_desk.calls import FIELDS, OF_PARTIES
 from gasday_desk.journal import Maker
+from gasday_desk.permissions import CALLS as PERMITTED
 from gasday_desk.permissions import Viewer
 from gasday_desk.program import parts_of
-from gasday_desk.rows import groups_of, rows_in, told_groups_of
+from gasday_desk.rows import CALLS, groups_of, rows_in, told_groups_of
 from gasday_desk.settings import Settings, User
 from gasday_desk.tables import confirmation_table, cycle_table, line_table, schedule_table
 from gasday_desk.tomorrow import carried_rows
 from gasday_desk.view import DayView, Key, opening_of
+from gasday_import.forms import KINDS
 
 BASE = """segment,S1,A,B,100,,,
 point,R1,receipt,A,OPR,1000,,
@@ -155,6 +158,15 @@ class Tables(unittest.TestCase):
         table = schedule_table(two_cycles(), viewer("scheduler"), 2, None)
         self.assertEqual([row[5:11] for row in table.rows], [[4, 0, 70, 50, 20, 20], [1, 0, 50, 50, 0, None]])
         self.assertEqual(table.marks, {0: "bumped"})
+
+
+class Forms(unittest.TestCase):
+    def test_of_calls(self) -> None:
+        """Each call has the fields of its row in the importer, behind moment and party; and each may be made by somebody."""
+        self.assertEqual(set(FIELDS), set(CALLS))
+        self.assertEqual(set(FIELDS) | {"open", "clock"}, set(PERMITTED))
+        for kind, fields in FIELDS.items():
+            self.assertEqual(len(fields), len(KINDS[kind].titles) - (2 if kind in OF_PARTIES else 1), kind)
 
 
 class Questions(unittest.TestCase):
