@@ -10,8 +10,10 @@ from dataclasses import dataclass
 from pathlib import Path
 
 from certificate import Question, Unreadable
+from gasday_report.day import day_of, day_verdict
 from gasday_report.facts import Facts, facts_of
 from gasday_report.html_format import page_of
+from gasday_report.moments import Clock
 from gasday_report.picture import picture_of
 from gasday_report.report import Report
 from gasday_report.texts import Fault, Input
@@ -136,6 +138,14 @@ def contracted(view: DayView) -> dict[str, int]:
     except Unreadable as error:
         raise Failed(f"what firm contracts would bring can't be added up: {error}") from None
     return asked.loads([one.quantity for one in firm])
+
+
+def day_page(program: Program, text: bytes, told: bytes, zone: str) -> str:
+    """The report of a whole day as one page: its calls, and what each was told."""
+    events, replies = Input("events", "the day's text", text), Input("replies", "told", told)
+    verdict = day_verdict(program.path, events, replies)
+    day = day_of(program.path, events, replies, Clock(zone)) if verdict.passed else None
+    return page_of(Report([verdict], [events, replies], [], None, day))
 
 
 def save(shown: Shown, folder: Path, name: str) -> None:

@@ -10,7 +10,7 @@ import tempfile
 import time
 from pathlib import Path
 
-from .answers import answer_of, question_of, save, shown_of
+from .answers import answer_of, day_page, question_of, save, shown_of
 from .journal import Journal
 from .keeper import wanted_file
 from .program import BUSY_PAUSE, Failed, Kept, Program, program_at, written
@@ -27,6 +27,7 @@ audit.csv      what it told when this archive was made
 told.csv       what was told
 postings.db    what was published, with its certificates (`gasday day --archive`); `gasday audit postings.db` checks it
 calls.csv      who made which call, as the desk noted it, with the hashes of the receipts
+day.html       the day for people: its calls, and what each was told (not proved)
 rounds/        of each answered round its question, its answer, and the report with both checks (not proved)
 SHA256SUMS     of all of these; `sha256sum -c SHA256SUMS`
 """
@@ -83,7 +84,7 @@ def write_rounds(program: Program, view: DayView, kept: Kept, folder: Path) -> N
             save(shown_of(program, question_of(view, one), answer_of(view, one, kept.text), name), folder, name)
 
 
-def write_day(program: Program, journal: Journal, book: str, source: Path, folder: Path) -> None:
+def write_day(program: Program, journal: Journal, book: str, source: Path, folder: Path, zone: str) -> None:
     """All files of the archive but the hashes; everything is made of the one copy of the book."""
     copy = folder / f"{book}.book"
     copy_book(source, copy)
@@ -94,10 +95,12 @@ def write_day(program: Program, journal: Journal, book: str, source: Path, folde
     kept = program.kept_by(copy)
     day = next(row for row in kept.opening if row[0] == "day")
     view = DayView(opening_of(kept.opening, program.ask("calendar", text=written([day])).rows()))
-    for rows, told in zip(kept.calls, kept.told, strict=True):
-        view.add(rows, told)
+    for rows, replies in zip(kept.calls, kept.told, strict=True):
+        view.add(rows, replies)
     (folder / f"{book}.csv").write_bytes(kept.text)
-    (folder / "told.csv").write_bytes(b"".join(line_of(row) for told in kept.told for row in told))
+    told = b"".join(line_of(row) for rows in kept.told for row in rows)
+    (folder / "told.csv").write_bytes(told)
+    (folder / "day.html").write_text(day_page(program, kept.text, told, zone), encoding="utf-8")
     program.ask("day", "--archive", str(folder / "postings.db"), text=kept.text)
     write_calls(journal, book, view, folder / "calls.csv")
     write_rounds(program, view, kept, folder / "rounds")
@@ -129,7 +132,8 @@ def export_day(path: Path, book: str, program: str | None, output: Path | None) 
         with tempfile.TemporaryDirectory() as name:
             whole = Path(name) / book
             whole.mkdir()
-            write_day(program_at(program or settings.program), journal, book, folder.book_file(book), whole)
+            made = program_at(program or settings.program)
+            write_day(made, journal, book, folder.book_file(book), whole, settings.clock)
             close_files(whole)
             write_sums(whole)
             new = target.with_name(target.name + ".new")

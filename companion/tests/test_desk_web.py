@@ -4,6 +4,7 @@ import contextlib
 import io
 import re
 import secrets
+import shutil
 import unittest
 from pathlib import Path
 
@@ -353,6 +354,20 @@ class Settled(PagesTest):
             with self.assertLogs("gasday_desk") as logs:
                 self.browser().get(f"{DAY}/lines.json", X_Forwarded_For="192.0.2.7")
             self.assertIn(f"address {address}, ", logs.output[0])
+
+    def test_two_pipelines(self) -> None:
+        """Each has its own books; the public page has the latest of each."""
+        shutil.copytree(self.path / "pipelines" / "test", self.path / "pipelines" / "south")
+        zone = 'zone = "CST6CDT,M3.2.0,M11.1.0"'
+        self.change("[[pipeline]]", f'[[pipeline]]\nname = "south"\nbook = "SOUTH"\n{zone}\n[[pipeline]]')
+        sam = self.browser("sam")
+        self.assertEqual(sam.post("/days/open", pipeline="south", date="2026-03-08"), (303, "/days/SOUTH-20260308"))
+        wish = {"contract": "FIRM", "package": "P", "origin": "R1", "destination": "D1", "quantity": "7"}
+        self.browser("sue").post("/days/SOUTH-20260308/call/nominate", **wish)
+        calls = [len(sam.json(f"/days/{book}/calls.json")["rows"]) for book in (BOOK, "SOUTH-20260308")]
+        self.assertEqual(calls, [0, 1])
+        books = {row["book"] for row in self.browser().json("/public.json")["rows"]}
+        self.assertEqual(books, {BOOK, "SOUTH-20260308"})
 
     def test_settings_that_are_wrong(self) -> None:
         """The file, what is wrong and what is wanted, with status 2."""
