@@ -20,7 +20,7 @@ from .web import REPORT_POLICY, Missing, View, day, desk, log_in, page, viewer
 
 PAGES = Blueprint("pages", __name__)
 ENDINGS = ("", ".csv", ".json")
-MOST_SHOWN = 500  # rows of a table on a page; its CSV has all
+MOST_SHOWN = 300  # rows of a table on a page; its CSV has all
 Made: TypeAlias = str | Answer
 
 

@@ -26,6 +26,11 @@ class Column:
     is_number: bool = False
     link: str = ""  # what a cell of it leads to: call or cycle
 
+    @property
+    def style(self) -> str:
+        """The class of its cells in the style sheet."""
+        return "number" if self.is_number else "words" if self.key in ("why", "asked", "told", "row") else "name"
+
 
 @dataclass
 class Table:
@@ -42,6 +47,12 @@ class Table:
         writer.writerow([column.key for column in self.columns])
         writer.writerows(self.rows)
         return out.getvalue()
+
+    def cells(self, row: list[Cell]) -> list[tuple[Column, str]]:
+        """The cells of a row as a page shows them."""
+        shown = (f"{value:,}" if isinstance(value, int) and column.is_number else "" if value is None else str(value)
+                 for column, value in zip(self.columns, row, strict=True))
+        return list(zip(self.columns, shown, strict=True))
 
     def records(self) -> list[dict[str, Cell]]:
         return [dict(zip([column.key for column in self.columns], row, strict=True)) for row in self.rows]
