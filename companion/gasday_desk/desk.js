@@ -10,12 +10,13 @@
     if (busy) return;
     busy = true;
     try {
-      const answer = await fetch(location.href, { headers: { "X-Refresh": "1" } });
+      const answer = await fetch(location.href);
       if (!answer.ok || answer.redirected) return;
       const fresh = new DOMParser().parseFromString(await answer.text(), "text/html");
       for (const old of document.querySelectorAll("[data-live]")) {
         const part = fresh.getElementById(old.id);
-        if (part && !old.contains(document.activeElement) && part.innerHTML !== old.innerHTML) old.replaceWith(part);
+        const inUse = old.contains(document.activeElement) || old.querySelector("details[open]");
+        if (part && !inUse && part.innerHTML !== old.innerHTML) old.replaceWith(part);
       }
       seen = Number(fresh.body.dataset.version) || seen;
     } catch (error) {
