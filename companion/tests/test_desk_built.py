@@ -4,12 +4,15 @@ import contextlib
 import hashlib
 import io
 import os
+import random
 import re
 import shutil
+import signal
 import sqlite3
 import subprocess
 import sys
 import tarfile
+import threading
 import unittest
 from functools import lru_cache
 from pathlib import Path
@@ -102,6 +105,29 @@ class Built(DeskTest):
         self.assertEqual([one.call.number if one.call else 0 for one in told], [2, 3, 4, 5])
         self.assertEqual([one.told[0][0] for one in told], ["frozen", "refused", "refused", "published"])
         self.assertEqual([one.entry.state for one in told], ["kept"] * 4)
+
+    def test_a_settle_under_kills(self) -> None:
+        """Killed at some moment of a settle, the file says whether it was made; sent again by its form it is made once."""
+        chance, maker = random.Random(2016), Maker("sam", "scheduler", "PIPE")
+        journal = Journal(self.folder / "desk.db")
+        self.addCleanup(journal.close)
+        lines = "".join(f"nominate,1772910000,SHIP,FIRM,P{at},R1,D1,0\n" for at in range(100))
+        self.clock.pass_to(1772922700)
+        for trial in range(8):
+            file = self.folder / f"settle-{trial}.book"
+            self.make_book(file)
+            self.ask().ask("day", "--book", str(file), text=(lines + "freeze,1772922600,,,,,,\n").encode())
+            keeper = Keeper(self.ask(), file, f"BOOK-{trial}", journal, Guard(self.clock, lambda reason: None))
+            keeper.call(Asked("post", ("S1", "70"), maker, "form-0"))
+            assert keeper.run
+            killer = threading.Timer(chance.uniform(0, 0.02), os.kill, (keeper.run.process.pid, signal.SIGKILL))
+            killer.start()
+            told = [keeper.call(Asked("settle", (), maker, "form-1")) for _ in range(3)]
+            killer.join()
+            keeper.close()
+            self.assertEqual([one.told[0][0] for one in told[1:]], ["published"] * 2)
+            # (all calls but the post, which a frozen book refuses, are events)
+            self.assertEqual(self.ask().ask("audit", str(file)).first()[:5], ("replayed", "TEST-20260308", "103", "102", "1"))
 
     def test_a_demo_and_its_export(self) -> None:
         path = self.folder / "demo"
