@@ -1,13 +1,13 @@
 #!/usr/bin/env python3
 """Measures companion/gasday-desk.
 
-    bench/desk.py PROGRAM [--users N] [--calls N] [--lines N] [--kept FOLDER]
+    bench/desk.py PROGRAM [--users N] [--calls N] [--rate N] [--lines N] [--kept FOLDER]
 
 PROGRAM is the built `gasday`. A desk of its own is served on this machine by a Python with Flask and waitress. It measures
 
 calls   so many users (50 without a number), each on a connection of its own, nominate 10,000 times in all, each call awaited
-        before that user's next: calls a second, and how long an answer took (median, 95 and 99 of 100, greatest). Then the file
-        has to audit, and has to have each call once.
+        before that user's next, as fast as they can, or at so many a second in all: calls a second, and how long an answer
+        took (median, 95 and 99 of 100, greatest). Then the file has to audit, and has to have each call once.
 settle  a day with so many lines (20,000 without a number) is frozen and settled by the desk while a page of it is asked for
         again and again: how long the settle took, and how long the slowest page meanwhile.
 
@@ -17,6 +17,7 @@ answer is not the one that it has to be. Quantities of time are seconds; 1 MB is
 
 import argparse
 import os
+import random
 import sys
 import tempfile
 import threading
@@ -48,8 +49,13 @@ def share(times, part):
     return sorted(times)[min(len(times) - 1, int(len(times) * part))]
 
 
-def nominate(desk, user, count, times, wrong):
+def nominate(desk, user, count, pause, times, wrong):
+    """A user's calls, one each so many seconds, or as fast as they are answered."""
+    due = time.perf_counter() + pause * random.random()
     for at in range(count):
+        if pause:
+            time.sleep(max(0.0, due - time.perf_counter()))
+            due += pause
         began = time.perf_counter()
         status, told = desk.nominate(user, f"U{user}N{at % 100}", f"order-{user}-{at:06}", 1 + at % 7)
         times.append(time.perf_counter() - began)
@@ -57,13 +63,14 @@ def nominate(desk, user, count, times, wrong):
             wrong.append((status, told))
 
 
-def measure_calls(folder, program, users, calls):
+def measure_calls(folder, program, users, calls, rate):
     """Calls of all users at once; whether all was right."""
     desk = LiveDesk(folder / "calls", program, users)
     desk.make_book()
     desk.start()
     times, wrong = [], []
-    threads = [threading.Thread(target=nominate, args=(desk, user, calls // users, times, wrong)) for user in range(users)]
+    pause = users / rate if rate else 0.0
+    threads = [threading.Thread(target=nominate, args=(desk, user, calls // users, pause, times, wrong)) for user in range(users)]
     began = time.perf_counter()
     for thread in threads:
         thread.start()
@@ -137,6 +144,7 @@ def main():
     parser.add_argument("program")
     parser.add_argument("--users", type=int, default=50)
     parser.add_argument("--calls", type=int, default=10_000)
+    parser.add_argument("--rate", type=float, default=0.0, help="so many calls a second in all, else as fast as they can")
     parser.add_argument("--lines", type=int, default=20_000)
     parser.add_argument("--kept", type=Path, help="a folder for what is made, else a temporary one")
     options = parser.parse_args()
@@ -144,7 +152,7 @@ def main():
     with tempfile.TemporaryDirectory() as name:
         folder = options.kept or Path(name)
         folder.mkdir(parents=True, exist_ok=True)
-        is_right = measure_calls(folder, program, options.users, options.calls)
+        is_right = measure_calls(folder, program, options.users, options.calls, options.rate)
         is_right &= measure_settle(folder, program, options.lines)
     return 0 if is_right else 1
 
