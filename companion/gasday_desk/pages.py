@@ -232,18 +232,27 @@ def confirm_several(book: str) -> Made:
 
 
 def responses_of(view: DayView, form: Mapping[str, str]) -> list[tuple[str, Wish]]:
-    found = []
     if form.get("all"):
-        for row in tables.confirmation_table(view, viewer()).rows:
-            if row[-1] == "silent":
-                line, end, quantity = (str(row[at]) for at in (0, 5, 8))
-                found.append((f"{line}-{end}", Wish("respond", {"line": line, "end": end, "quantity": quantity})))
-        return found
+        return silent_ends(view, form.get("seen", ""))
+    found = []
     for name, quantity in form.items():
         kind, _, rest = name.partition(" ")
         if kind == "quantity" and quantity.strip():
             line, _, end = rest.partition(" ")
             found.append((f"{line}-{end}", Wish("respond", {"line": line, "end": end, "quantity": quantity})))
+    return found
+
+
+def silent_ends(view: DayView, seen: str) -> list[tuple[str, Wish]]:
+    """All silent ends, each with what the page showed as nominated: it was made after so many calls."""
+    if not (seen.isascii() and seen.isdigit() and len(seen) < 10):
+        raise Unclear("the form doesn't say what was seen; open it anew")
+    found = []
+    for row in tables.confirmation_table(view, viewer()).rows:
+        nomination = view.lines[int(row[0] or 0) - 1].nominated(view.cycle, int(seen))
+        if row[-1] == "silent" and nomination:
+            wish = {"line": str(row[0]), "end": str(row[5]), "quantity": str(nomination.quantity)}
+            found.append((f"{row[0]}-{row[5]}", Wish("respond", wish)))
     return found
 
 

@@ -89,9 +89,10 @@ class Line:
     key: Key
     nominations: list[Nomination] = field(default_factory=list)
 
-    def nominated(self, cycle: int) -> Nomination | None:
-        """What was accepted last for this cycle or one before it."""
-        return next((one for one in reversed(self.nominations) if one.cycle <= cycle), None)
+    def nominated(self, cycle: int, calls: int | None = None) -> Nomination | None:
+        """What was accepted last for this cycle or one before it; or what was after so many calls."""
+        return next((one for one in reversed(self.nominations)
+                     if one.cycle <= cycle and (calls is None or one.call <= calls)), None)
 
     def later(self, cycle: int) -> Nomination | None:
         last = self.nominations[-1]

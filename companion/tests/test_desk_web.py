@@ -285,13 +285,20 @@ class Office(PagesTest):
         self.assertEqual((status, "the file:1: error" in told), (400, True))
 
     def test_silent_ends_all_at_once(self) -> None:
+        """Each is confirmed as it stood on the page, whatever was nominated since."""
         self.browser("sue").nominate()
         self.browser("tim").nominate("5", "INT")
         ora = self.browser("ora")
-        self.assertEqual(ora.post(f"{DAY}/confirm", all="yes")[0], 303)
-        self.assertEqual([row["response"] for row in ora.json(f"{DAY}/confirm.json")["rows"]], [70, 5])
+        seen = re.search('name="seen" value="([0-9]+)"', ora.get(f"{DAY}/confirm")[1])
+        assert seen
+        self.browser("tim").nominate("50", "INT")
+        self.browser("tim").nominate("9", "INT", package="LATE")
+        self.assertEqual(ora.post(f"{DAY}/confirm", all="yes")[0], 400)
+        self.assertEqual(ora.post(f"{DAY}/confirm", all="yes", seen=seen[1])[0], 303)
+        rows = sorted(ora.json(f"{DAY}/confirm.json")["rows"], key=lambda row: int(row["line"]))
+        self.assertEqual([row["response"] for row in rows], [70, 5, None])
         self.assertEqual(ora.post(f"{DAY}/confirm", **{"quantity 2 origin": "4", "quantity 1 origin": ""})[0], 303)
-        self.assertEqual(ora.json(f"{DAY}/lines.json")["rows"][1]["nominated"], 5)
+        self.assertEqual(ora.json(f"{DAY}/lines.json")["rows"][1]["nominated"], 50)
 
     def test_what_is_faulty(self) -> None:
         status, told = self.browser("sue").nominate("MUCH")
