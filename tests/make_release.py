@@ -97,7 +97,7 @@ Architecture: {architecture}
 Maintainer: {maintainer}
 Installed-Size: {size}
 Depends: {depends}, python3 (>= 3.11)
-Suggests: graphviz, python3-distributed
+Suggests: graphviz, python3-distributed, python3-flask, python3-waitress
 Section: science
 Priority: optional
 Description: scheduling office of one interstate gas pipeline

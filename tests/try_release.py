@@ -128,10 +128,16 @@ def try_fleet(trial: Trial) -> None:
     trial.run(b"scenario,verdict,told,", "gasday-fleet", "study", trial.example(QUESTION), "scenarios.csv", "--serial")
 
 
+def try_desk(trial: Trial) -> None:
+    trial.run(b"", "gasday-desk", "init", "office")
+    words = ("user", "add", "office", "sam", "--party", "MYPIPE", "--role", "scheduler", "--stdin")
+    trial.run(b"", "gasday-desk", *words, text=b"a long password\n")
+
+
 # The trial of each tool; that of the program comes first, since it leaves what the others take.
 TRIALS: dict[str, Callable[[Trial], None]] = {
     "gasday": try_program, "gasday-audit": try_audit, "gasday-certificate": try_certificate, "gasday-import": try_import,
-    "gasday-report": try_report, "gasday-fleet": try_fleet,
+    "gasday-report": try_report, "gasday-fleet": try_fleet, "gasday-desk": try_desk,
 }
 
 

@@ -7,6 +7,8 @@ import sys
 from collections.abc import Sequence
 from pathlib import Path
 
+from gasday_report.ending import ends_in_order
+
 from .people import LEAST_LETTERS, hash_of, new_token
 from .program import Failed
 from .settings import FOLDERS, PARTY, ROLES, USER, User, Wrong, users_of, write_users, write_whole
@@ -168,6 +170,7 @@ def parser_of() -> argparse.ArgumentParser:
     return parser
 
 
+@ends_in_order("gasday-desk")
 def main(words: Sequence[str] | None = None) -> int:
     options = parser_of().parse_args(words)
     os.umask(0o027)
@@ -178,8 +181,4 @@ def main(words: Sequence[str] | None = None) -> int:
     except ModuleNotFoundError as error:
         print(f"gasday-desk: Python has no {error.name}: apt-get install python3-flask python3-waitress, and run it by"
               " /usr/bin/python3", file=sys.stderr)
-    except OSError as error:
-        print(f"gasday-desk: {error.filename or 'the desk'}: {error.strerror}", file=sys.stderr)
-    except KeyboardInterrupt:
-        print("gasday-desk: stopped", file=sys.stderr)
     return 2
