@@ -4,7 +4,9 @@ from html import escape
 from importlib import resources
 from typing import TextIO
 
-from gasday_report.html_format import POLICY, embedded, inputs_html, notes_html, part_of_page, section, verdict_html
+from gasday_report.answer_parts import PICTURE_NOTE
+from gasday_report.html_format import inputs_html, verdict_html
+from gasday_report.html_parts import document, notes_html, section, table_html
 from gasday_report.page_tables import Cell, Mark, Table, column, mark, numbers
 from gasday_report.verdicts import Verdict
 from gasday_report.words import CYCLES, counted
@@ -66,8 +68,8 @@ def classes_html(summary: Summary) -> str:
 def picture_html(summary: Summary) -> str:
     svg, note = picture_of(summary)
     warning = f'<p class="warn">{escape(note)}</p>' if note else ""
-    return section("Which element binds how often", warning, f'<div class="picture">{svg}</div>', LEGEND,
-                   '<p class="note">Hover over an element for its numbers; click on it to find it in the table.</p>')
+    return section("Which element binds how often", warning, f'<div class="picture" data-table="elements">{svg}</div>', LEGEND,
+                   f'<p class="note">{PICTURE_NOTE}</p>')
 
 
 def scenario_cells(fact: ScenarioLine, classes: list[int]) -> list[Cell]:
@@ -117,25 +119,16 @@ def body_html(summary: Summary) -> str:
     return "".join([
         verdicts_html(summary), classes_html(summary), picture_html(summary),
         section("Scenarios", f'<p class="note">{SCENARIO_NOTE}</p>',
-                '<div id="scenarios"></div>'),
-        section("Lines", '<div id="lines"></div>'), section("Segments and points", '<div id="elements"></div>'),
+                table_html(scenario_table(summary))),
+        section("Lines", table_html(line_table(summary))),
+        section("Segments and points", table_html(element_table(summary))),
         section("How to read this", notes_html(NOTES))])
 
 
 def page_of(summary: Summary) -> str:
-    title, style = escape(title_of(summary)), part_of_page("page.css")
     own_style = resources.files(__package__).joinpath("study.css").read_text(encoding="utf-8")
-    tables = [scenario_table(summary), line_table(summary), element_table(summary)]
-    data = embedded({"tables": tables, "texts": []})
-    return (f'<!DOCTYPE html>\n<html lang="en"><head><meta charset="utf-8"><title>{title}</title>'
-            f'<meta http-equiv="Content-Security-Policy" content="{POLICY}">'
-            f'<meta name="viewport" content="width=device-width, initial-scale=1"><style>\n{style}{own_style}</style></head>'
-            f'<body><main><h1>{title}</h1><p class="under">Quantities are dekatherms for one gas day. This page is not proved;'
-            " each answer that it counts passed the check of gasday, which is.</p>"
-            '<noscript><p class="warn">The tables of this page need JavaScript; the formats json and csv do not.</p></noscript>'
-            f"{body_html(summary)}</main>"
-            f'<script type="application/json" id="data">{data}</script><script>\n{part_of_page("page.js")}</script>'
-            "</body></html>\n")
+    return document(title_of(summary), "Quantities are dekatherms for one gas day. This page is not proved; each answer that it"
+                    " counts passed the check of gasday, which is.", body_html(summary), own_style)
 
 
 def print_html(summary: Summary, out: TextIO) -> None:

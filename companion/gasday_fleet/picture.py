@@ -58,10 +58,9 @@ def edge_svg(fact: ElementFact, points: list[Point], greatest: int, of: int) -> 
             f'<path class="head" d="{picture.arrow_of(points, width)}"/></g>')
 
 
-def label_svg(fact: ElementFact, middle: Point, greatest: int, of: int, is_first: bool) -> str:
-    x, y = middle[0], middle[1] - min(picture.width_for(fact.load, greatest) / 2, picture.HIGHER)
-    mark = ' id="first"' if is_first else ""
-    return (f'<g class="label"{mark} data-name="{escape(fact.name)}"><title>{hover_of(fact, of)}</title>'
+def label_svg(fact: ElementFact, middle: Point, points: list[Point], greatest: int, of: int) -> str:
+    x, y = picture.beside(middle, points, picture.width_for(fact.load, greatest))
+    return (f'<g class="label" data-name="{escape(fact.name)}"><title>{hover_of(fact, of)}</title>'
             f'<text x="{x:.1f}" y="{y - 2:.1f}">{escape(fact.name)}</text>'
             f'<text class="amount" x="{x:.1f}" y="{y + 9:.1f}">{share_of(fact.binds, of)}</text></g>')
 
@@ -87,11 +86,7 @@ def picture_of(summary: Summary) -> tuple[str, str]:
     parts = [edge_svg(fact, curve.points, greatest, of) for fact, curve in zip(shown, curves, strict=True)]
     for name in part.places:
         parts.append(picture.place_svg(name, layout.nodes["place " + name], width["place " + name], False))
-    first = max(part.segments, key=picture.weight_of).name
-    parts += [label_svg(fact, curve.label, greatest, of, fact.name == first)
+    parts += [label_svg(fact, curve.label, curve.points, greatest, of)
               for fact, curve in zip(shown, curves, strict=True) if curve.label]
     parts += [end_svg(facts[end.name], layout.nodes["end " + end.name], width["end " + end.name], of) for end in part.ends]
-    fits = ' class="fits"' if layout.width < picture.MOST_WIDTH else ""
-    svg = (f'<svg{fits} viewBox="-8 -8 {layout.width + 16:.0f} {layout.height + 16:.0f}" width="{layout.width + 16:.0f}"'
-           f' height="{layout.height + 16:.0f}" role="img" aria-label="The pipeline">{"".join(parts)}</svg>')
-    return svg, part.note
+    return picture.svg_of(layout, parts), part.note

@@ -1,13 +1,19 @@
-"""A gas day's calls, and what each was told."""
+"""A gas day's calls, and what each was told; and its cycles."""
 
+import os
+import tempfile
 from collections.abc import Iterator, Sequence
+from dataclasses import dataclass
 from typing import NamedTuple
 
+from .archives import Posting, postings_in
+from .course import ENDS, Course, Taken
 from .moments import Clock
+from .program import Program
+from .rounds import CycleFacts, Rounds
 from .texts import Fault, Input, Row, number_of, of_kinds, rows_in, written
 from .verdicts import Verdict
-from .verdicts import call as call_program
-from .words import CYCLES, counted, listed
+from .words import CYCLES, counted, grouped, listed
 
 CALLS = ("nominate", "respond", "post", "freeze", "settle", "skip", "publish", "declare", "waive")
 HEADS = ("accepted", "done", "frozen", "published", "declared", "refused")
@@ -55,14 +61,30 @@ class Call(NamedTuple):
     refused: bool
     told: str
     details: list[str]
+    row: Row  # as it was asked
+    head: Row  # and the first row that was told
 
 
-class Day(NamedTuple):
+@dataclass
+class Day:
     date: str
     book: str
     clock: Clock
-    cycles: list[tuple[int, list[str]]]  # the number of each cycle with its six times in words
+    times: list[tuple[int, list[int]]]  # the number of each cycle with its six times
     calls: list[Call]
+    cycles: list[CycleFacts]  # those that began
+
+
+@dataclass(frozen=True)
+class DayRun:
+    """What the program tells of a day's text, and the postings that it keeps of it."""
+
+    told: list[Row]
+    postings: list[Posting]
+
+
+def amount_in(field: str) -> str:
+    return grouped(number_of(field, "events"))
 
 
 def cycle_name(field: str) -> str:
@@ -73,11 +95,11 @@ def cycle_name(field: str) -> str:
 def asked_words(row: Row) -> str:
     kind = row[0]
     if kind == "nominate":
-        return f"{row[2]} nominates {row[7]} under {row[3]}, package {row[4]}, from {row[5]} to {row[6]}"
+        return f"{row[2]} nominates {amount_in(row[7])} under {row[3]}, package {row[4]}, from {row[5]} to {row[6]}"
     if kind == "respond":
-        return f"{row[2]} confirms {row[5]} at the {'origin' if row[4] == 'origin' else 'destination'} of line {row[3]}"
+        return f"{row[2]} confirms {amount_in(row[5])} at the {ENDS.get(row[4], row[4])} of line {row[3]}"
     if kind == "post":
-        return f"{row[2]} is posted at {row[3]}"
+        return f"{row[2]} is posted at {amount_in(row[3])}"
     words = {"freeze": "the cycle is to be frozen", "settle": "the frozen question is to be solved",
              "skip": "the cycle is to be skipped", "publish": f"a schedule is offered for round {row[2]}",
              "declare": f"a cut is offered for round {row[2]}", "waive": f"line {row[2]} gives up its protection"}
@@ -103,16 +125,18 @@ def told_words(row: Row, rest: Sequence[Row]) -> str:
         return f"{head}, with {counted(number_of(row[4], 'replies'), 'line')}"
     if kind == "declared":
         return f"{head} has no schedule, as a cut shows"
-    totals = [f"{total[2]} in class {total[1]}" for total in of_kinds(rest, ("total",)) if total[2] != "0"]
+    totals = [f"{amount_in(total[2])} in class {total[1]}" for total in of_kinds(rest, ("total",)) if total[2] != "0"]
     bumped = of_kinds(rest, ("bumped",))
     more = f"; {counted(len(bumped), 'line')} bumped" if bumped else ""
     return f"{head}, {listed(totals) or 'nothing'} scheduled{more}"
 
 
 def detail_words(row: Row) -> str:
-    return {"bound": f"line {row[1]}, class {row[2]}: floor {row[3]}, ceiling {row[4]}",
-            "sched": f"line {row[1]}: {row[2]} scheduled", "bumped": f"line {row[1]}: bumped by {row[2]}",
-            "inside": f"inside the cut: {row[1]} {row[2]}", "total": f"class {row[1]}: {row[2]} in all"}[row[0]]
+    if row[0] == "bound":
+        return f"line {row[1]}, class {row[2]}: floor {amount_in(row[3])}, ceiling {amount_in(row[4])}"
+    if row[0] == "inside":
+        return f"inside the cut: {row[1]} {row[2]}"
+    return f"line {row[1]}: {'bumped by ' if row[0] == 'bumped' else ''}{amount_in(row[2])}{' scheduled' * (row[0] == 'sched')}"
 
 
 def groups_of(rows: Sequence[Row]) -> list[tuple[Row, list[Row]]]:
@@ -133,33 +157,54 @@ def check_fields(row: Row, name: str) -> None:
         raise Fault(f"{name}: {','.join(row)} lacks a field")
 
 
-def calls_of(events: Sequence[Row], replies: Sequence[Row], clock: Clock) -> Iterator[Call]:
+def calls_of(events: Sequence[Row], groups: Sequence[tuple[Row, list[Row]]], clock: Clock) -> Iterator[Call]:
     asked = of_kinds(events, CALLS)
-    groups = groups_of(replies)
     if len(groups) != len(asked):
-        raise Fault(f"the replies tell of {counted(len(groups), 'call')}, the events have {len(asked)}")
+        raise Fault(f"the replies tell of {counted(len(groups), 'call')}, the events have {len(asked):,}")
     for number, (row, (head, rest)) in enumerate(zip(asked, groups, strict=True), 1):
         check_fields(row, "events")
         check_fields(head, "replies")
         seconds = number_of(row[1], "events")
         yield Call(number, seconds, clock.show(seconds), row[0], asked_words(row), head[0] == "refused",
-                   told_words(head, rest), [detail_words(detail) for detail in rest if detail[0] != "total"])
+                   told_words(head, rest), [detail_words(detail) for detail in rest if detail[0] != "total"], row, head)
 
 
-def cycles_of(program: str, row: Row, clock: Clock) -> Iterator[tuple[int, list[str]]]:
+def taken_of(events: Sequence[Row], groups: Sequence[tuple[Row, list[Row]]]) -> Iterator[Taken]:
+    """The calls that were accepted, each with its place in the text."""
+    places = [at for at, row in enumerate(events, 1) if row[0] in CALLS]
+    for at, (head, rest) in zip(places, groups, strict=True):
+        if head[0] != "refused":
+            yield Taken(events[at - 1], at, head, rest)
+
+
+def times_of(program: Program, row: Row) -> Iterator[tuple[int, list[int]]]:
     """The day's cycles with their times, as `gasday calendar` tells them."""
-    out, _ = call_program(program, ["calendar"], written([row]))
+    out, _ = program.call(["calendar"], written([row]))
     for told in of_kinds(rows_in(out, "gasday calendar"), ("cycle",)):
         number, *moments = (number_of(field, "gasday calendar") for field in told[1:])
-        yield number, [clock.show(moment) for moment in moments]
+        yield number, moments
 
 
-def day_verdict(program: str, events: Input, replies: Input) -> Verdict:
+def run_day(program: Program, events: Input) -> DayRun:
+    """Runs the program on a day's text. It keeps what is published in an archive of its own."""
+    book = day_row(events)[3]
+    with tempfile.TemporaryDirectory(prefix="gasday-report-") as folder:
+        path = os.path.join(folder, "postings.db")
+        told = rows_in(program.call(["day", "--archive", path], events.data)[0], "gasday day")
+        for row in of_kinds(told, ("fault",)):
+            why = "the text has a fault" if row[1] != "0" else f"it could not be run with an archive in {folder}"
+            raise Fault(f"gasday day: {why}: {','.join(row).rstrip(',')}")
+        return DayRun(told, postings_in(path, book) if os.path.exists(path) else [])
+
+
+def held_in(replies: Input) -> list[Row]:
+    """What the replies hold of calls, less what an archive told."""
+    return [row for row in replies.rows() if row[:2] != ["refused", "keep"]]
+
+
+def day_verdict(run: DayRun, replies: Input) -> Verdict:
     """Whether `gasday day` tells once more what the replies hold."""
-    told = rows_in(call_program(program, ["day"], events.data)[0], "gasday day")
-    if told and told[0][0] == "fault":
-        raise Fault(f"gasday day: the text has a fault: {','.join(told[0]).rstrip(',')}")
-    held = [row for row in replies.rows() if row[:2] != ["refused", "keep"]]
+    told, held = run.told, held_in(replies)
     if told == held:
         return Verdict("gasday day", True, f"told again, the events give these {counted(len(held), 'row')}")
     at = next((k for k, (a, b) in enumerate(zip(told, held, strict=False)) if a != b), min(len(told), len(held)))
@@ -167,13 +212,21 @@ def day_verdict(program: str, events: Input, replies: Input) -> Verdict:
     return Verdict("gasday day", False, f"row {at + 1} of the replies is {sides[0]}, and gasday day tells {sides[1]}")
 
 
-def day_of(program: str, events: Input, replies: Input, clock: Clock) -> Day:
-    rows = events.rows()
-    heads = of_kinds(rows, ("day",))
+def day_row(events: Input) -> Row:
+    heads = of_kinds(events.rows(), ("day",))
     if len(heads) != 1:
         raise Fault(f"events: {counted(len(heads), 'day row')}, where one is wanted")
-    held = [row for row in replies.rows() if row[:2] != ["refused", "keep"]]
-    if held and held[0][:2] == ["refused", "calendar"]:
-        raise Fault(f"the gas day has no calendar: {held[0][3]}")
-    calls = list(calls_of(rows, held, clock))
-    return Day(heads[0][1], heads[0][3], clock, list(cycles_of(program, heads[0], clock)), calls)
+    return heads[0]
+
+
+def day_of(program: Program, events: Input, run: DayRun, clock: Clock) -> tuple[Day, list[Verdict]]:
+    """The day, and what was checked of its rounds."""
+    rows, head = events.rows(), day_row(events)
+    if run.told and run.told[0][:2] == ["refused", "calendar"]:
+        raise Fault(f"the gas day has no calendar: {run.told[0][3]}")
+    groups = groups_of(run.told)
+    calls = list(calls_of(rows, groups, clock))
+    course = Course(rows, taken_of(rows, groups))
+    rounds = Rounds(program, rows, head[3], course.lines, run.postings)
+    cycles = [rounds.cycle(cycle) for cycle in course.cycles if cycle.number in CYCLES]
+    return Day(head[1], head[3], clock, list(times_of(program, head)), calls, cycles), rounds.all_verdicts()

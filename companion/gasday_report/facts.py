@@ -5,7 +5,9 @@ from typing import NamedTuple
 
 from certificate import NOTHING, Answer, Crossing, Question, Sums, Words, crossing_of, sums_of
 
+from .causes import Cause, Causes
 from .reasons import Reason, Reasons
+from .sharing import Sharing, Sharings
 from .texts import Fault, Input, Row, number_of, of_kinds
 
 
@@ -19,7 +21,8 @@ class LineFact(NamedTuple):
     scheduled: int | None = None  # none where a cut shows that there is no schedule
     short: int | None = None
     bumped: int | None = None  # none where the answer tells of no bumped line
-    reason: Reason | None = None  # where the line is short
+    reason: Reason | None = None  # where the line is short: the arithmetic
+    causes: tuple[Cause, ...] = ()  # and what it says in words of the trade
     cut_way: str = ""  # of a cut: out, in or nothing
     cut_quantity: int | None = None
 
@@ -36,6 +39,7 @@ class ElementFact(NamedTuple):
     price: Words | None  # none where all its words are 0
     inside: bool | None  # of a cut: whether a point or pool is a member
     cut_capacity: int | None  # of a cut: what can flow out by it
+    usual: int | None = None  # the capacity without a posted one; none at a pool
 
 
 class Total(NamedTuple):
@@ -56,6 +60,7 @@ class Facts(NamedTuple):
     sums: Sums | None  # of a cut
     members: list[tuple[str, str]]  # of a cut: kind and name, in order of entry
     asked: Question
+    sharings: tuple[Sharing, ...] = ()  # who shares the elements that a reason names
 
     @property
     def is_cut(self) -> bool:
@@ -73,12 +78,18 @@ def bumped_of(rows: Sequence[Row], count: int) -> dict[int, int]:
     return bumped
 
 
-def scheduled_lines(asked: Question, answer: Answer, loads: Mapping[str, int], bumped: Mapping[int, int]) -> Iterator[LineFact]:
-    reasons = Reasons(asked, answer, loads)
+def usual_capacities(rows: Sequence[Row]) -> dict[str, int]:
+    """The capacities that segments and points have where no other one is posted."""
+    return {row[1]: number_of(row[4 if row[0] == "segment" else 5], "question") for row in of_kinds(rows, ("segment", "point"))}
+
+
+def scheduled_lines(asked: Question, answer: Answer, sharings: Sharings, bumped: Mapping[int, int]) -> Iterator[LineFact]:
+    reasons = Reasons(asked, answer, sharings.loads)
+    causes = Causes(asked, reasons, sharings)
     for number, (line, quantity) in enumerate(zip(asked.lines, answer.quantities, strict=True), 1):
         more = bumped.get(number, 0) if bumped else None
         yield LineFact(number, *line, scheduled=quantity, short=line.ceiling - quantity, bumped=more,
-                       reason=reasons.reason(number))
+                       reason=reasons.reason(number), causes=tuple(causes.of_line(number)))
 
 
 def cut_lines(asked: Question, crossing: Crossing) -> Iterator[LineFact]:
@@ -103,7 +114,7 @@ def element_facts(asked: Question, rows: Sequence[Row], answer: Answer, loads: M
     operators = {row[1]: row[4 if row[0] == "point" else 3] for row in of_kinds(rows, ("point", "pool"))}
     names = list(asked.places)
     into = {} if loads is None else entering(asked, answer.quantities)
-    ways_out = dict(crossing.can_flow) if crossing else {}
+    ways_out, usual = dict(crossing.can_flow) if crossing else {}, usual_capacities(rows)
     for name, kind, ends, capacity in asked.in_order():
         is_pool, is_segment = kind == "pool", kind == "segment"
         load = None if loads is None else into.get(name, 0) if is_pool else loads[name]
@@ -113,7 +124,7 @@ def element_facts(asked: Question, rows: Sequence[Row], answer: Answer, loads: M
             name=name, kind=kind, start=names[ends[0]], end=names[ends[1]] if is_segment else "",
             operator=operators.get(name, ""), capacity=None if is_pool else capacity, load=load,
             room=None if is_pool or load is None else capacity - load, price=price if price != NOTHING else None,
-            inside=None if crossing is None or is_segment else is_member, cut_capacity=ways_out.get(name))
+            inside=None if crossing is None or is_segment else is_member, cut_capacity=ways_out.get(name), usual=usual.get(name))
 
 
 def totals_of(lines: Sequence[LineFact]) -> list[Total]:
@@ -137,13 +148,14 @@ def facts_of(question: Input, answer_file: Input, asked: Question, answer: Answe
     _, book, cycle, times = of_kinds(rows, ("question",))[0][:4]
     bumped = bumped_of(answer_file.rows(), len(asked.lines))
     if answer.is_cut:
-        crossing, loads = crossing_of(asked, answer.members), None
+        crossing, loads, sharings = crossing_of(asked, answer.members), None, None
         lines = list(cut_lines(asked, crossing))
         members, sums = members_of(asked, answer), sums_of(crossing)
     else:
         crossing, loads = None, asked.loads(answer.quantities)
-        lines = list(scheduled_lines(asked, answer, loads, bumped))
+        sharings = Sharings(asked, answer.quantities, loads, usual_capacities(rows))
+        lines = list(scheduled_lines(asked, answer, sharings, bumped))
         members, sums = [], None
     elements = list(element_facts(asked, rows, answer, loads, crossing))
     return Facts(book, number_of(cycle, "question"), number_of(times, "question"), lines, elements, totals_of(lines), sums,
-                 members, asked)
+                 members, asked, tuple(sharings.found.values()) if sharings else ())

@@ -7,7 +7,7 @@ from typing import NamedTuple
 
 INCH = 72
 SECONDS = 20
-LAYER, SLOT, MARGIN = 250, 44, 60
+LAYER, SLOT, MARGIN = 250, 50, 60
 LETTERS = 15  # how far above its curve a label stands
 HEAD = 10  # the length of an arrow's head, which goes on from its curve
 
@@ -148,9 +148,13 @@ def apart(places: Mapping[str, Point]) -> dict[str, Point]:
 
 def straight(places: Mapping[str, Point], size: Mapping[str, Node], edge: Edge,
              near: Mapping[str, Sequence[tuple[str, int]]]) -> Curve:
-    """A curve from a node's right side to the next one's left side, or straight down where they stand in one layer. The
-    label stands towards the node with fewer edges, where the curve is by itself."""
+    """A curve from a node's right side to the next one's left side; where they stand in one layer straight down, or round what
+    stands between them. The label stands towards the node with fewer edges, where the curve is by itself."""
     (x1, y1), (x2, y2) = places[edge.tail], places[edge.head]
+    if x1 == x2 and abs(y2 - y1) > 1.5 * SLOT:
+        x1, x2 = x1 - size[edge.tail].width / 2, x2 - size[edge.head].width / 2 - HEAD
+        left = min(x1, x2) - 30
+        return Curve([(x1, y1), (left, y1), (left, y2), (x2, y2)], None)
     if x1 == x2:
         down = 1 if y2 > y1 else -1
         y1, y2 = y1 + down * size[edge.tail].height / 2, y2 - down * size[edge.head].height / 2

@@ -1,15 +1,34 @@
-"""The tables of the HTML page, as its script reads them: columns, rows, and which rows are marked."""
+"""The tables of the HTML page: columns, rows, and which rows are marked."""
 
+from collections.abc import Iterable
+from dataclasses import dataclass
 from typing import NotRequired, TypedDict
 
+from .cause_words import arithmetic_words, line_number, words_of
 from .day import Day
+from .day_text import confirmed_words, freed_words, labels_of, reasons_of
 from .facts import ElementFact, Facts, LineFact
-from .words import counted, price_in_words
+from .reasons import Reason
+from .rounds import RoundFacts, RoundLine
+from .words import price_in_words
 
 MOST_DETAILS = 12
+ARITHMETIC = "show the arithmetic"
 
-# A list holds numbers of sentences.
-Cell = str | int | None | list[int]
+
+@dataclass(frozen=True)
+class Sentences:
+    """A cell of sentences, some of which are shown only when the reader asks for them."""
+
+    shown: tuple[str, ...] = ()
+    hidden: tuple[str, ...] = ()
+    summary: str = ARITHMETIC
+
+    def __bool__(self) -> bool:
+        return bool(self.shown or self.hidden)
+
+
+Cell = str | int | None | Sentences
 
 
 class Column(TypedDict):
@@ -17,6 +36,7 @@ class Column(TypedDict):
     number: bool  # whether it holds numbers, which stand at the right
     down: bool  # whether the greatest come first where it is sorted by
     name: bool  # whether it holds names, which are not broken
+    words: bool  # whether it holds sentences, which want room
 
 
 class Mark(TypedDict):
@@ -36,22 +56,8 @@ class Table(TypedDict):
     choice: int  # the column by whose values rows are chosen
 
 
-class Texts:
-    """Sentences that many rows share stand once in the page."""
-
-    def __init__(self) -> None:
-        self.words: list[str] = []
-        self.at: dict[str, int] = {}
-
-    def number(self, word: str) -> int:
-        if word not in self.at:
-            self.at[word] = len(self.words)
-            self.words.append(word)
-        return self.at[word]
-
-
-def column(title: str, number: bool = False, down: bool = False, name: bool = False) -> Column:
-    return {"title": title, "number": number, "down": down, "name": name}
+def column(title: str, number: bool = False, down: bool = False, name: bool = False, words: bool = False) -> Column:
+    return {"title": title, "number": number, "down": down, "name": name, "words": words}
 
 
 def numbers(*titles: str) -> list[Column]:
@@ -73,57 +79,108 @@ def element_cells(element: ElementFact) -> list[Cell]:
     return [element.name, element.kind, element.start, element.end, element.operator, element.capacity]
 
 
-def reason_texts(line: LineFact, texts: Texts) -> list[int]:
-    if line.reason is None:
-        return []
-    more = [f"{counted(line.reason.more, 'more element')} of its route with a price"] if line.reason.more else []
-    return [texts.number(word) for word in [*line.reason.words, *more, line.reason.rest]]
+def why_cell(words: Iterable[str], reason: Reason | None) -> Sentences:
+    return Sentences(tuple(words), tuple(arithmetic_words(reason)) if reason else ())
 
 
-def line_table(facts: Facts, texts: Texts) -> Table:
+def line_table(facts: Facts) -> Table:
     has_bumped = any(line.bumped is not None for line in facts.lines)
-    columns = ENDS + numbers("floor", "asked", "scheduled", "short") + numbers(*["bumped"] * has_bumped) + [column("why")]
+    columns = ENDS + numbers("floor", "confirmed", "scheduled", "short") + numbers(*["bumped"] * has_bumped)
+    columns.append(column("why", words=True))
     marks = [mark("short", 7, "short")] + ([mark("bumped", 8, "bumped")] if has_bumped else [])
     rows: list[list[Cell]] = []
     for line in facts.lines:
-        bumped = [line.bumped] if has_bumped else []
-        rows.append([*line_cells(line), line.scheduled, line.short, *bumped, reason_texts(line, texts)])
+        bumped: list[Cell] = [line.bumped] if has_bumped else []
+        words = words_of(line.causes, facts.cycle, line.class_number, line_number)
+        rows.append([*line_cells(line), line.scheduled, line.short, *bumped, why_cell(words, line.reason)])
     return {"id": "lines", "columns": columns, "rows": rows, "marks": marks, "choice": 3}
 
 
-def element_table(facts: Facts) -> Table:
+def element_table(facts: Facts, name: str = "elements") -> Table:
     columns = [column("element", name=True), column("kind"), column("at or from", name=True), column("to", name=True),
-               column("operator", name=True), *numbers("capacity", "load", "room"), column("price by class")]
-    rows = [[*element_cells(element), element.load, element.room, price_in_words(element.price) if element.price else ""]
-            for element in facts.elements]
+               column("operator", name=True), *numbers("capacity", "load", "room"), column("price")]
+    rows: list[list[Cell]] = []
+    for element in facts.elements:
+        price = Sentences(hidden=(price_in_words(element.price),)) if element.price else None
+        rows.append([*element_cells(element), element.load, element.room, price])
     full: Mark = {"name": "full", "column": 7, "kind": "full", "equals": 0}
     marks = [full, mark("priced", 8, "")]
-    return {"id": "elements", "columns": columns, "rows": rows, "marks": marks, "choice": 1}
+    return {"id": name, "columns": columns, "rows": rows, "marks": marks, "choice": 1}
 
 
 def cut_line_table(facts: Facts) -> Table:
-    columns = ENDS + numbers("floor", "ceiling") + [column("crosses")] + numbers("counts")
+    columns = ENDS + numbers("floor", "confirmed") + [column("crosses")] + numbers("counts")
     ways = {"out": "leaves the set", "in": "comes back"}
-    rows = [[*line_cells(line), ways.get(line.cut_way, ""), line.cut_quantity] for line in facts.lines]
+    rows: list[list[Cell]] = [[*line_cells(line), ways.get(line.cut_way, ""), line.cut_quantity] for line in facts.lines]
     return {"id": "lines", "columns": columns, "rows": rows, "marks": [mark("crossing", 6, "crosses")], "choice": 3}
 
 
-def cut_element_table(facts: Facts) -> Table:
+def cut_element_table(facts: Facts, name: str = "elements") -> Table:
     columns = [column("element", name=True), column("kind"), column("at or from", name=True), column("to", name=True),
                column("operator", name=True), *numbers("capacity"), column("member"), *numbers("can flow out")]
-    rows = [[*element_cells(element), "inside" if element.inside else "", element.cut_capacity] for element in facts.elements]
-    marks = [mark("inside", 6, ""), mark("leading out", 7, "crosses")]
-    return {"id": "elements", "columns": columns, "rows": rows, "marks": marks, "choice": 1}
+    rows: list[list[Cell]] = [[*element_cells(element), "inside" if element.inside else "", element.cut_capacity]
+                              for element in facts.elements]
+    marks: list[Mark] = [mark("inside", 6, ""), {"name": "leading out", "column": 7, "kind": "crosses"}]
+    return {"id": name, "columns": columns, "rows": rows, "marks": marks, "choice": 1}
 
 
-def call_table(day: Day, texts: Texts) -> Table:
+ROUND_ENDS = [column("line", number=True), column("shipper", name=True), column("contract", name=True),
+              column("package", name=True), column("from", name=True), column("to", name=True), column("class", number=True)]
+
+
+def round_line_cells(line: RoundLine, cycle: int) -> list[Cell]:
+    at = line.line
+    return [at.number, at.shipper, at.contract, at.package, at.origin, at.destination, line.class_number, line.nominated,
+            line.confirmed, confirmed_words(line, cycle), line.floor]
+
+
+def round_line_table(made: RoundFacts, name: str) -> Table:
+    """The lines of a round that was published, or is frozen."""
+    columns = [*ROUND_ENDS, *numbers("nominated", "confirmed"), column("confirmed by"), *numbers("floor", "scheduled", "less"),
+               *numbers("bumped"), column("why", words=True)]
+    label, rows, cycle = labels_of(made.lines), [], made.round.cycle
+    for line in made.lines:
+        less = None if line.scheduled is None else max(line.nominated - line.scheduled, 0)
+        why = why_cell(reasons_of(line, cycle, label), line.reason)
+        rows.append([*round_line_cells(line, cycle), line.scheduled, less, line.bumped, why])
+    marks = [mark("with less than nominated", 12, "short"), mark("bumped", 13, "bumped")]
+    return {"id": name, "columns": columns, "rows": rows, "marks": marks, "choice": 1}
+
+
+def round_cut_table(made: RoundFacts, excess: int, name: str) -> Table:
+    """The lines of a declared round: which count in the cut, and what a waiver of each would free."""
+    columns = [*ROUND_ENDS, *numbers("nominated", "confirmed"), column("confirmed by"), *numbers("floor"), column("crosses"),
+               *numbers("counts", "waiver frees"), column("which means", words=True)]
+    ways = {"out": "leaves the set", "in": "comes back"}
+    rows: list[list[Cell]] = []
+    for line in made.lines:
+        means = freed_words(line, excess)
+        rows.append([*round_line_cells(line, made.round.cycle), ways.get(line.cut_way, ""), line.cut_quantity, line.freed,
+                     Sentences((means,) if means else ())])
+    return {"id": name, "columns": columns, "rows": rows, "marks": [mark("crossing", 11, "crosses")], "choice": 1}
+
+
+def sharing_table(made: RoundFacts, facts: Facts, name: str) -> Table:
+    """Who shares what is full, element by element and line by line."""
+    columns = [column("element", name=True), *numbers("capacity", "load"), column("class", number=True),
+               column("line", number=True), column("shipper", name=True), column("contract", name=True),
+               *numbers("floor", "scheduled")]
+    rows: list[list[Cell]] = []
+    for sharing in facts.sharings:
+        for share in sharing.lines:
+            at = made.lines[share.line - 1].line
+            rows.append([sharing.element, sharing.capacity, sharing.load, share.class_number, share.line, at.shipper, at.contract,
+                         share.floor, share.scheduled])
+    return {"id": name, "columns": columns, "rows": rows, "marks": [], "choice": 0}
+
+
+def call_table(day: Day) -> Table:
     columns = [column("call", number=True), column("moment", name=True), column("kind", name=True), column("asked"),
-               column("refused"), column("told"), column("in detail")]
+               column("refused"), column("told"), column("in detail", words=True)]
     rows: list[list[Cell]] = []
     for call in day.calls:
-        details = call.details[:MOST_DETAILS]
-        if len(call.details) > MOST_DETAILS:
-            details.append(f"and {len(call.details) - MOST_DETAILS} more")
-        rows.append([call.number, call.moment, call.kind, call.asked, "refused" if call.refused else "", call.told,
-                     [texts.number(word) for word in details]])
+        more = len(call.details) - MOST_DETAILS
+        details = call.details[:MOST_DETAILS] + ([f"and {more:,} more"] if more > 0 else [])
+        shown = Sentences(hidden=tuple(details), summary=f"{len(call.details):,} rows") if details else None
+        rows.append([call.number, call.moment, call.kind, call.asked, "refused" if call.refused else "", call.told, shown])
     return {"id": "calls", "columns": columns, "rows": rows, "marks": [mark("refused", 4, "refused")], "choice": 2}

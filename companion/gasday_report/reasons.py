@@ -6,8 +6,6 @@ from typing import NamedTuple
 
 from certificate import NOTHING, Answer, Line, Question, Words, plus, tenth_of, worth_of
 
-from .words import counted, displaced, full, listed
-
 # A route may have thousands of priced segments: so many of a rank are looked at from each end, and so many are named.
 MOST_LOOKED_AT = 32
 MOST_NAMED = 3
@@ -27,10 +25,14 @@ class Payment(NamedTuple):
 
 
 class Reason(NamedTuple):
-    elements: list[str]  # by name, those that pay most first
-    words: list[str]  # a sentence of each
+    """What the next dekatherm of a line would have to pay, and what it is worth."""
+
+    paid: list[Payment]  # at the elements where it would pay most, those first
+    back: list[Payment]  # what it would get back
     more: int  # elements of the route with a price that are not named
-    rest: str  # how the next dekatherm's worth compares
+    class_number: int
+    tenth: int
+    is_less: bool  # whether it is worth less than all that it would pay, and not just as much
 
 
 class Trace(NamedTuple):
@@ -150,44 +152,13 @@ class Reasons:
             elif payment.element in (line.origin, line.destination) and payment.element not in pools:
                 pools.append(payment.element)
 
-    def of_element(self, name: str) -> str:
-        return full(name, self.loads[name], self.question.elements[name].capacity)
-
-    def pool_words(self, pool: str, leaving: bool) -> str:
-        """Why no more goes through a pool, in words."""
-        trace = self.trace(pool, leaving)
-        ways = "leave it" if leaving else "be brought into it"
-        through = f" (by way of {listed(trace.pools[1:4])})" if len(trace.pools) > 1 else ""
-        if not trace.full:
-            side = "out of" if leaving else "into"
-            of = listed([pool, *trace.pools[1:4]])
-            if not trace.filled_lines:
-                return f"no line leads {side} {of}"
-            return f"{counted(trace.filled_lines, 'line')} {side} {of}, all at the ceiling, so no more can {ways}{through}"
-        if len(trace.full) == 1:
-            return f"more could {ways}{through} only where {self.of_element(trace.full[0])}"
-        named = [f"{name} ({self.loads[name]} of {self.question.elements[name].capacity})" for name in trace.full[:MOST_NAMED]]
-        more = [f"{len(trace.full) - MOST_NAMED} more"] if len(trace.full) > MOST_NAMED else []
-        return f"more could {ways}{through} only past what is full: {listed(named + more)}"
-
-    def words_of(self, payment: Payment, line: Line) -> str:
-        element = self.question.elements[payment.element]
-        if element.kind != "pool":
-            return f"{self.of_element(element.name)}; {displaced(payment.amount)}"
-        leaving = element.name == line.destination
-        rule = "as much must leave as enters" if leaving else "as much must enter as leaves"
-        return f"at pool {element.name} {rule}, and {self.pool_words(element.name, leaving)}; {displaced(payment.amount)}"
-
     def reason(self, number: int) -> Reason | None:
         """Why this line is below its ceiling; None where it isn't."""
         line, quantity = self.question.lines[number - 1], self.quantities[number - 1]
         if quantity >= line.ceiling:
             return None
         paid, back, count = self.payments(number)
-        named = paid[:MOST_NAMED]
-        words = [self.words_of(payment, line) for payment in named]
-        words += [f"in return, at {element}, {displaced(amount)}" for element, amount in back[:MOST_NAMED]]
+        named = paid[:MOST_NAMED], back[:MOST_NAMED]
         is_less = worth_of(line, quantity + 1) < self.costs[number - 1]
-        worth = "is worth less than all that" if is_less else "is worth just that, so nothing would be gained"
-        rest = f"its next dekatherm, of class {line.class_number} and tenth {tenth_of(line.ceiling, quantity + 1)}, {worth}"
-        return Reason([payment.element for payment in named], words, count - len(words), rest)
+        more = count - sum(map(len, named))
+        return Reason(*named, more, line.class_number, tenth_of(line.ceiling, quantity + 1), is_less)

@@ -4,14 +4,18 @@ from dataclasses import dataclass, field
 
 from .day import Day
 from .facts import Facts
+from .program import Program
 from .texts import Input
 from .verdicts import Verdict
+
+ALONE = "Checked by certificate.py alone: gasday, whose check is proved, was not asked."
 
 
 @dataclass
 class Report:
     """All that is shown; the facts and the day only after a PASS."""
 
+    program: Program | None = None  # none where certificate.py alone was asked
     verdicts: list[Verdict] = field(default_factory=list)
     inputs: list[Input] = field(default_factory=list)
     notes: list[str] = field(default_factory=list)
@@ -19,4 +23,10 @@ class Report:
     day: Day | None = None
 
     def passed(self) -> bool:
-        return all(verdict.passed for verdict in self.verdicts)
+        return bool(self.verdicts) and all(verdict.passed for verdict in self.verdicts)
+
+    def checked_by(self) -> str:
+        """Which program checked, in words."""
+        if self.program is None:
+            return ALONE
+        return f"Checked by {self.program.path}, {self.program.version}, SHA-256 {self.program.sha256}"

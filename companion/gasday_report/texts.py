@@ -43,7 +43,7 @@ def read_input(role: str, path: str) -> Input:
 def rows_in(data: bytes, name: str) -> list[Row]:
     """The rows of a text, as lists of eight fields; empty lines are skipped."""
     try:
-        text = data.decode("utf-8")
+        text = data.decode("utf-8-sig")  # the program drops a byte order mark too
         rows = [row for row in csv.reader(io.StringIO(text, newline=""), strict=True) if row]
     except (UnicodeDecodeError, csv.Error) as error:
         raise Fault(f"{name}: no text of comma-separated fields: {error}") from None

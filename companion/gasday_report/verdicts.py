@@ -1,18 +1,14 @@
 """The verdicts that stand before each report: that of `gasday check ..`, and that of certificate.py."""
 
-import os
-import shutil
-import subprocess
 from collections.abc import Iterable, Sequence
-from pathlib import Path
 from typing import NamedTuple
 
 from certificate import Answer, Question, Unreadable, Wrong, verdict_of
 
+from .program import BUILT as BUILT
+from .program import Program
+from .program import program_at as program_at
 from .texts import ANSWER_KINDS, Fault, Input, Row, of_kinds, question_text, rows_in, written
-
-BUILT = Path(__file__).resolve().parents[2] / "crates" / "gasday" / "out" / "gasday"
-SECONDS = 600
 
 BROKEN = {
     "Shape": "there is not one quantity for each line",
@@ -32,25 +28,6 @@ class Verdict(NamedTuple):
     by: str
     passed: bool
     words: str
-
-
-def program_at(path: str | None) -> str:
-    """The program to run: the one that is named, else the built one, else the one on the PATH."""
-    found = shutil.which(path or (str(BUILT) if os.access(BUILT, os.X_OK) else "gasday"))
-    if not found:
-        raise Fault(f"there is no program {path or 'gasday'}; --gasday names one")
-    return found
-
-
-def call(program: str, words: Sequence[str], text: bytes) -> tuple[bytes, int]:
-    """What the program prints, and its exit status."""
-    try:
-        done = subprocess.run([program, *words], input=text, capture_output=True, timeout=SECONDS)
-    except OSError as error:
-        raise Fault(f"{program} can't be run: {error.strerror}") from None
-    except subprocess.TimeoutExpired:
-        raise Fault(f"{program} was not ready after {SECONDS} seconds") from None
-    return done.stdout, done.returncode
 
 
 def is_cut(rows: Iterable[Row]) -> bool:
@@ -80,13 +57,13 @@ def claim_verdict(answer: Input, told: Sequence[Row]) -> list[Verdict]:
     return []
 
 
-def program_verdicts(program: str, question: Input, answer: Input) -> list[Verdict]:
+def program_verdicts(program: Program, question: Input, answer: Input) -> list[Verdict]:
     """What `gasday check ..` says of the question with the answer's own rows behind it; after a PASS also whether the
     answer claims as much."""
     rows = answer.rows()
     word = "cut" if is_cut(rows) else "best"
     text = question_text(question) + written(of_kinds(rows, ANSWER_KINDS))
-    out, status = call(program, ["check", word], text)
+    out, status = program.call(["check", word], text)
     told = rows_in(out, f"gasday check {word}")
     by = f"gasday check {word}"
     if told and told[0][0] == "fault":
@@ -100,8 +77,8 @@ def own_verdict(question: Input, answer: Input) -> tuple[Verdict, Question, Answ
     """What certificate.py says; with the question and the answer that it read."""
     by = "certificate.py"
     try:
-        asked = Question(question_text(question).decode("utf-8"))
-        given = Answer(answer.data.decode("utf-8"), asked)
+        asked = Question(question_text(question).decode("utf-8-sig"))
+        given = Answer(answer.data.decode("utf-8-sig"), asked)
     except Unreadable as error:
         raise Fault(f"{by}: {error}") from None
     given.is_cut = is_cut(answer.rows())

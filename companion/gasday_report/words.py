@@ -6,9 +6,12 @@ from certificate import CLASSES, TENTHS, Words
 
 CYCLES = {1: "Timely", 2: "Evening", 3: "Intraday 1", 4: "Intraday 2", 5: "Intraday 3"}
 
-PRICE_NOTES = (
-    "Prices are not unique: other prices may show the same schedule best. So each reason is one sufficient reason, and"
-    " there may be others.",
+REASON_NOTES = (
+    "'Nominated' is what the shipper asked for, 'confirmed' what the operators of both ends let pass; a line can't get more.",
+    "A reason is one sufficient reason, taken from the prices that the answer has. Other prices may show the same schedule best,"
+    " so there may be other reasons.",
+)
+ARITHMETIC_NOTES = (
     "A price is a shadow price and no money: it counts, class by class, the dekatherms that one more dekatherm there"
     " would displace.",
     "Within a class the tenths decide: each line's ceiling is cut into ten equal parts, and a dekatherm in an earlier"
@@ -26,14 +29,19 @@ def listed(words: Iterable[str], joint: str = "and") -> str:
     return f" {joint} ".join([", ".join(words[:-1]), words[-1]]) if len(words) > 1 else "".join(words)
 
 
+def grouped(number: int) -> str:
+    """A number with its digits in threes."""
+    return f"{number:,}"
+
+
 def counted(count: int, one: str) -> str:
-    return f"{count} {one if count == 1 else one + 's'}"
+    return f"{count:,} {one if count == 1 else one + 's'}"
 
 
 def gas_of(class_number: int, word: int, spread: int) -> str:
     """Gas of a class by its word of a price, with its tenth where the spread's word is one dekatherm's."""
     tenth = f" of tenth {-spread}" if word == 1 and -TENTHS <= spread <= -1 else ""
-    amount = f"{word} dekatherms of " if word > 1 else ""
+    amount = f"{word:,} dekatherms of " if word > 1 else ""
     return f"{amount}class {class_number} gas{tenth}"
 
 
@@ -48,10 +56,6 @@ def displaced(amount: Words) -> str:
     parts = [f"{listed(out)} would be displaced"] if out else []
     parts += [f"{listed(back)} would be let in"] if back else []
     return " and ".join(parts)
-
-
-def full(name: str, load: int, capacity: int) -> str:
-    return f"{name} is full, {load} of {capacity}"
 
 
 def price_in_words(price: Words) -> str:

@@ -15,6 +15,7 @@ sys.path.insert(0, str(TOP / "companion"))
 from gasday_report.command import main  # noqa: E402 (the path comes first)
 
 ANSWER_KINDS = ("sched", "price", "inside")
+VERSION = 'if [ "$1" = --version ]; then echo "gasday 9.8"; exit 0; fi\n'  # of a fake program
 
 # The question of docs/CERTIFICATES.md: S1 carries 100, line 1 of class 1 asks for 80 and line 2 of class 4 for 50.
 TWO_LINES = """segment,S1,A,B,100,,,
@@ -75,10 +76,11 @@ class ReportTest(unittest.TestCase):
         return str(path)
 
     def program(self, told: str | bytes, status: int = 0) -> str:
-        """A program that tells so whatever it is asked, and keeps its words and its text beside itself."""
+        """A program that tells so whatever it is asked but its version, and keeps its words and its text beside itself."""
         here = self.folder.name
         self.path("told", told)
-        path = self.path("gasday", f'#!/bin/sh\necho "$@" >> {here}/words\ncat > {here}/text\ncat {here}/told\nexit {status}\n')
+        path = self.path("gasday", f'#!/bin/sh\n{VERSION}echo "$@" >> {here}/words\ncat > {here}/text\ncat {here}/told\n'
+                         f"exit {status}\n")
         os.chmod(path, 0o755)
         return path
 

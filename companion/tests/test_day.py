@@ -5,7 +5,7 @@ import os
 import unittest
 import zoneinfo
 
-from helpers import ReportTest, example
+from helpers import VERSION, ReportTest, example
 
 from gasday_report.moments import Clock
 
@@ -51,7 +51,7 @@ class Days(ReportTest):
         """A program that tells the replies to `day`, and docs/GUIDE.md's calendar to `calendar`."""
         self.path("calendar-told", CALENDAR)
         self.path("day-told", replies)
-        path = self.path("gasday", f'#!/bin/sh\ncat > /dev/null\ncat "{self.folder.name}/$1-told"\n')
+        path = self.path("gasday", f'#!/bin/sh\n{VERSION}cat > /dev/null\ncat "{self.folder.name}/$1-told"\n')
         os.chmod(path, 0o755)
         return path
 
@@ -110,7 +110,9 @@ class Days(ReportTest):
     def test_json_and_csv(self) -> None:
         calls = json.loads(self.day("--format", "json")[0])["day"]["calls"]
         self.assertEqual((len(calls), calls[0]["moment"], calls[0]["refused"]), (10, 1772910900, False))
-        self.assertEqual(calls[9]["details"], ["line 1: 50 scheduled", "line 2: 50 scheduled", "line 1: bumped by 20"])
+        asked = {"party": "SHIP", "contract": "INT", "package": "P", "origin": "R1", "destination": "D1", "quantity": 70}
+        self.assertEqual((calls[0]["asked"], calls[0]["told"]), (asked, {"kind": "accepted", "event": 1, "cycle": 1, "line": 1}))
+        self.assertEqual(calls[9]["told"], {"kind": "published", "event": 10, "cycle": 2, "round": 2})
         self.assertEqual(self.day("--format", "csv")[0].splitlines()[0], "call,moment,local,kind,refused,asked,told")
 
     def test_a_page(self) -> None:

@@ -7,7 +7,7 @@ from collections import Counter
 from typing import Any, ClassVar
 
 from fleet_helpers import QUESTION, FleetTest
-from test_page import REQUESTS, Page, embedded
+from test_page import REQUESTS, Page, Tables
 
 from gasday_fleet.histograms import MOST_BARS, bars_of, in_short, nice
 from gasday_fleet.picture import share_of
@@ -71,20 +71,20 @@ class Study(FleetTest):
         spoiled = "<script>x&\"'</script>"
         quoted = '"' + spoiled.replace('"', '""') + '"'
         page, told, _ = self.made(f"scenario,element,capacity,{quoted}\n{quoted},S1,70,{quoted}\n")
-        self.assertEqual(page.count("<script"), 2)
-        self.assertEqual(embedded(page)["tables"][0]["rows"][0][:2], [spoiled] * 2)
+        self.assertEqual(page.count("<script"), 1)
+        self.assertEqual(Tables(page).rows["scenarios"][1][:2], [spoiled] * 2)
         self.assertEqual(told["scenarios"][0]["labels"], {spoiled: spoiled})
 
     def test_the_tables(self) -> None:
         page, _, _ = self.made()
-        scenarios, lines, elements = embedded(page)["tables"]
-        self.assertEqual([column["title"] for column in scenarios["columns"]], [
+        tables = Tables(page).rows
+        self.assertEqual(tables["scenarios"][0], [
             "scenario", "label", "verdict", "class 1", "class 4", "excess", "short", "full", "binding",
             "newly binding"])
-        self.assertEqual(scenarios["rows"][0], ["s15", "winter", "impossible", None, None, 5, None, None, None, "S1"])
-        self.assertEqual(scenarios["rows"][55], ["s70", "winter", "best", 10, 20, None, 2, 1, 1, ""])
-        self.assertEqual(lines["rows"][0], [1, "R1", "D1", 1, 80, 80, 60, 60, 17, 60])
-        self.assertEqual(elements["rows"][0], ["S1", "segment", "A", "B", 100, 100, 105, 110])
+        self.assertEqual(tables["scenarios"][1], ["s15", "winter", "impossible", "", "", "5", "", "", "", "S1"])
+        self.assertEqual(tables["scenarios"][56], ["s70", "winter", "best", "10", "20", "", "2", "1", "1", ""])
+        self.assertEqual(tables["lines"][1], ["1", "R1", "D1", "1", "80", "80", "60", "60", "17", "60"])
+        self.assertEqual(tables["elements"][1], ["S1", "segment", "A", "B", "100", "100", "105", "110"])
 
     def test_the_pictures(self) -> None:
         page, _, _ = self.made()

@@ -1,18 +1,16 @@
 """The HTML page: that it asks for nothing from outside, escapes what it shows, and says what a picture leaves out; and both
 layouts of the picture."""
 
-import json
 import re
 import unittest
 from html.parser import HTMLParser
-from typing import Any
 from unittest import mock
 
 from helpers import POOL_CUT, POOL_CUT_ANSWER, TWO_LINES, TWO_LINES_ANSWER, TWO_LINES_TOLD, ReportTest, winter_day
 
 from gasday_report import layout
 from gasday_report.layout import Edge, Node, plain, read_plain
-from gasday_report.picture import MOST_PLACES, PART_PLACES
+from gasday_report.picture import MOST_PLACES, PART_PLACES, beside
 
 WINTER_TOLD = "best,,,,,,,\n"
 REQUESTS = {"src", "href", "srcset", "action", "data", "background", "poster", "xlink:href"}
@@ -42,10 +40,34 @@ class Page(HTMLParser):
             self.words.append(data)
 
 
-def embedded(text: str) -> Any:
-    found = re.search(r'id="data">(.*?)</script>', text)
-    assert found, "the page has no data"
-    return json.loads(found.group(1))
+class Tables(HTMLParser):
+    """The tables of a page by their names: of each the titles, and rows with the words of their cells."""
+
+    def __init__(self, text: str) -> None:
+        super().__init__()
+        self.rows: dict[str, list[list[str]]] = {}
+        self.classes: dict[str, list[str]] = {}
+        self.name = ""
+        self.feed(text)
+
+    def handle_starttag(self, tag: str, attrs: list[tuple[str, str | None]]) -> None:
+        names = dict(attrs)
+        if tag == "div" and names.get("class") == "table":
+            self.name = names["id"] or ""
+            self.rows[self.name], self.classes[self.name] = [], []
+        elif tag == "tr" and self.name:
+            self.rows[self.name].append([])
+            self.classes[self.name].append(names.get("class") or "")
+        elif tag in ("td", "th") and self.name:
+            self.rows[self.name][-1].append("")
+
+    def handle_endtag(self, tag: str) -> None:
+        if tag == "table":
+            self.name = ""
+
+    def handle_data(self, data: str) -> None:
+        if self.name and self.rows[self.name] and self.rows[self.name][-1]:
+            self.rows[self.name][-1][-1] += data
 
 
 class Pages(ReportTest):
@@ -70,11 +92,11 @@ class Pages(ReportTest):
             question = question.replace(f",{name},", f",{field},")
         question = question.replace(",A,", f",{field},")
         text = self.page(question, TWO_LINES_ANSWER, TWO_LINES_TOLD)
-        self.assertEqual(text.count("<script"), 2)
+        self.assertEqual(text.count("<script"), 1)
         self.assertNotIn("x&\"", text)
         page = Page(text)
         self.assertIn(spoiled, "".join(page.words))
-        self.assertEqual(embedded(text)["tables"][0]["rows"][0][1], spoiled)
+        self.assertEqual(Tables(text).rows["lines"][1][1], spoiled)
 
     def test_verdicts_and_hashes_stand_at_the_top(self) -> None:
         words = "".join(Page(self.page(*winter_day(), WINTER_TOLD)).words)
@@ -82,16 +104,22 @@ class Pages(ReportTest):
             self.assertLess(words.index(first), words.index(second))
 
     def test_lines_of_the_table(self) -> None:
-        data = embedded(self.page(TWO_LINES, TWO_LINES_ANSWER, TWO_LINES_TOLD))
-        lines = data["tables"][0]
-        self.assertEqual(lines["rows"][0], [1, "R1", "D1", 1, 0, 80, 80, 0, []])
-        self.assertEqual(lines["rows"][1][:8], [2, "R1", "D1", 4, 0, 50, 20, 30])
-        self.assertIn("S1 is full, 100 of 100", data["texts"][lines["rows"][1][8][0]])
+        lines = Tables(self.page(TWO_LINES, TWO_LINES_ANSWER, TWO_LINES_TOLD)).rows["lines"]
+        self.assertEqual(lines[1], ["1", "R1", "D1", "1", "0", "80", "80", "0", ""])
+        self.assertEqual(lines[2][:8], ["2", "R1", "D1", "4", "0", "50", "20", "30"])
+        shown, _, hidden = lines[2][8].partition("show the arithmetic")
+        self.assertTrue(shown.startswith("S1 is full, 100 of 100: class 1 has 80 (line 1 80) and class 4 has 20 (line 2 20)"))
+        self.assertNotIn("tenth", shown)
+        self.assertIn("of class 4 and tenth 5", hidden)
+
+    def test_digits_are_grouped(self) -> None:
+        rows = Tables(self.page(*winter_day(), WINTER_TOLD)).rows
+        self.assertEqual(rows["elements"][3][5:8], ["80,000", "80,000", "0"])
 
     def test_bumped_lines_are_marked(self) -> None:
-        data = embedded(self.page(TWO_LINES, TWO_LINES_ANSWER + "bumped,2,7,,,,,\n", TWO_LINES_TOLD))
-        self.assertEqual([row[8] for row in data["tables"][0]["rows"]], [0, 7])
-        self.assertEqual([mark["name"] for mark in data["tables"][0]["marks"]], ["short", "bumped"])
+        tables = Tables(self.page(TWO_LINES, TWO_LINES_ANSWER + "bumped,2,7,,,,,\n", TWO_LINES_TOLD))
+        self.assertEqual([row[8] for row in tables.rows["lines"]], ["bumped", "0", "7"])
+        self.assertEqual(tables.classes["lines"], ["", "", "m0 short m1 bumped"])
 
     def test_the_picture(self) -> None:
         text = self.page(*winter_day(), WINTER_TOLD)
@@ -115,27 +143,38 @@ class Pages(ReportTest):
         self.assertNotIn("<script", text)
 
     def test_a_large_pipeline_is_drawn_in_part(self) -> None:
-        """A chain of 100 places whose gas enters at place 60: the part must hold where it flows."""
-        rows = [f"segment,S{k},L{k},L{k + 1},9,,,\n" for k in range(99)]
+        """A chain of 100 places whose gas enters at place 60: the part must hold where it flows, and first of all the one
+        segment that is full."""
+        rows = [f"segment,S{k},L{k},L{k + 1},{5 if k == 95 else 9},,,\n" for k in range(99)]
         rows += ["point,R1,receipt,L60,OP,9,,\n", "point,D1,delivery,L99,OP,9,,\n", "question,CHAIN,1,1,,,,\n"]
         rows.append("line,R1,D1,1,0,5,,\n")
         text = self.page("".join(rows), "sched,1,5,,,,,\n", "best,,,,,,,\ntotal,1,5,,,,,\n")
-        self.assertIn(f"{PART_PLACES} of 100 places with 1 of 2 points and pools", text)
+        self.assertIn(f"{PART_PLACES} of 100 places with 0 of 2 points and pools", text)
         places = re.findall(r"<title>place (L\d+)</title>", text)
         self.assertEqual(len(places), PART_PLACES)
-        self.assertIn("L60", places)
+        self.assertTrue({"L95", "L96"} <= set(places))
+        self.assertNotIn("L60", places)
         self.assertGreater(100, MOST_PLACES)
-        self.assertEqual(len(embedded(text)["tables"][1]["rows"]), 101)
+        self.assertEqual(len(Tables(text).rows["elements"]), 1 + 101)
+
+    def test_trouble_that_is_far_apart_is_joined(self) -> None:
+        """Both full segments, ten places from one another, and the way between them."""
+        rows = [f"segment,S{k},L{k},L{k + 1},{5 if k in (70, 80) else 9},,,\n" for k in range(99)]
+        rows += ["point,R1,receipt,L60,OP,9,,\n", "point,D1,delivery,L99,OP,9,,\n", "question,CHAIN,1,1,,,,\n"]
+        text = self.page("".join(rows) + "line,R1,D1,1,0,5,,\n", "sched,1,5,,,,,\n", "best,,,,,,,\ntotal,1,5,,,,,\n")
+        places = set(re.findall(r"<title>place (L\d+)</title>", text))
+        self.assertTrue({f"L{k}" for k in range(70, 82)} <= places)
 
 
 class Layouts(unittest.TestCase):
-    NODES = (Node("a", 60, 26), Node("b", 60, 26), Node("c", 60, 26), Node("d", 60, 26), Node("pool", 60, 32, "b"))
-    EDGES = (Edge("a", "b", 5), Edge("b", "c", 5), Edge("b", "d", 5), Edge("b", "pool", 0))
+    NODES = (Node("a", 60, 26), Node("b", 60, 26), Node("c", 60, 26), Node("d", 60, 26), Node("pool", 60, 32, "b"),
+             Node("receipt", 60, 32, "b"))
+    EDGES = (Edge("a", "b", 5), Edge("b", "c", 5), Edge("b", "d", 5), Edge("b", "pool", 0), Edge("receipt", "b", 0))
 
     def test_plain_layers_follow_the_gas(self) -> None:
         places = plain(self.NODES, self.EDGES).nodes
         x = {key: place[0] for key, place in places.items()}
-        self.assertTrue(x["a"] < x["b"] < x["c"] == x["d"] and x["pool"] == x["b"])
+        self.assertTrue(x["a"] < x["b"] < x["c"] == x["d"] and x["pool"] == x["b"] == x["receipt"])
         for one in places.values():
             for other in places.values():
                 self.assertTrue(one == other or abs(one[0] - other[0]) >= 60 or abs(one[1] - other[1]) >= 32)
@@ -144,7 +183,14 @@ class Layouts(unittest.TestCase):
         with mock.patch("shutil.which", return_value=None):
             made = layout.laid_out(self.NODES, self.EDGES)
         self.assertFalse(made.by_dot)
-        self.assertEqual(set(made.nodes), {"a", "b", "c", "d", "pool"})
+        self.assertEqual(set(made.nodes), {"a", "b", "c", "d", "pool", "receipt"})
+
+    def test_labels_stand_beside_thick_lines(self) -> None:
+        """A label above a line of 40 stands beyond its edge, 20 from its middle, and one far away stays."""
+        line = [(0.0, 100.0), (30.0, 100.0), (60.0, 100.0), (90.0, 100.0)]
+        x, y = beside((45, 95), line, 40)
+        self.assertTrue(abs(x - 45) < 1 and 100 - y > 20 + 9)
+        self.assertEqual(beside((45, 20), line, 40), (45, 20))
 
     def test_what_dot_prints(self) -> None:
         """Inches from below become 72 to an inch from above."""

@@ -87,26 +87,40 @@ class Texts(ReportTest):
 
     def test_a_line_and_its_reason(self) -> None:
         out = self.report(TWO_LINES, TWO_LINES_ANSWER, TWO_LINES_TOLD)[0]
-        self.assertIn("Line 1: R1 to D1, class 1: floor 0, ceiling (asked) 80, scheduled 80\n", out)
-        self.assertIn("Line 2: R1 to D1, class 4: floor 0, ceiling (asked) 50, scheduled 20, short by 30\n"
-                      "    why: S1 is full, 100 of 100; class 4 gas of tenth 4 would be displaced\n"
-                      "    its next dekatherm, of class 4 and tenth 5, is worth less", out)
+        self.assertIn("Line 1: R1 to D1, class 1: floor 0, confirmed 80, scheduled 80\n", out)
+        self.assertIn("Line 2: R1 to D1, class 4: floor 0, confirmed 50, scheduled 20, short by 30\n"
+                      "    why: S1 is full, 100 of 100: class 1 has 80 (line 1 80) and class 4 has 20 (line 2 20); the lines of class"
+                      " 4 share what higher classes and floors leave\n", out)
+        self.assertIn("segment S1: 100 of 100, room 0 (full)\n", out)
+        self.assertIn("receipt point R1: 100 of 1,000, room 900\n", out)
+        self.assertNotIn("tenth", out)
+
+    def test_the_arithmetic(self) -> None:
+        out = self.report(TWO_LINES, TWO_LINES_ANSWER, TWO_LINES_TOLD, "--arithmetic")[0]
+        self.assertIn("    arithmetic: at S1 class 4 gas of tenth 4 would be displaced\n"
+                      "    arithmetic: its next dekatherm, of class 4 and tenth 5, is worth less", out)
         self.assertIn("segment S1: 100 of 100, room 0 (full); price class 4: 1 and -4 in the spread\n", out)
-        self.assertIn("receipt point R1: 100 of 1000, room 900\n", out)
 
     def test_a_reason_is_traced_through_a_pool(self) -> None:
         out = self.winter()
-        self.assertIn("why: at pool MERGE-POOL as much must leave as enters, and more could leave it only where TRUNK-1 is"
-                      " full, 80000 of 80000; class 4 gas of tenth 8 would be displaced\n", out)
-        self.assertIn("pool MERGE-POOL: 16751 in and 16751 out; price class 4: 1 and -8 in the spread\n", out)
+        self.assertIn("why: by balance at pool MERGE-POOL: as much must leave as enters (16,751), and more could leave it only past"
+                      " what is full: TRUNK-1 is full, 80,000 of 80,000 (usually 100,000): class 1 has 53,000 (", out)
+        self.assertIn("pool MERGE-POOL: 16,751 in and 16,751 out\n", out)
+
+    def test_gas_of_a_higher_class_goes_first(self) -> None:
+        """On TRUNK-1 line 11, of class 6, stands behind class 4, whose gas is the last that passes."""
+        out = self.winter()
+        line = out.partition("Line 11: ")[2].partition("Line 12: ")[0]
+        self.assertIn("; gas of class 4 goes before gas of class 6\n", line)
 
     def test_what_a_line_gets_back(self) -> None:
-        self.assertIn("in return, at MERGE-POOL, class 4 gas of tenth 8 would be let in\n", self.winter())
+        self.assertIn("in return, at MERGE-POOL, class 4 gas of tenth 8 would be let in\n", self.winter("--arithmetic"))
 
     def test_notes(self) -> None:
-        out = self.winter()
-        for words in ("Prices are not unique", "a shadow price and no money", "the tenths decide"):
-            self.assertIn(words, out)
+        self.assertIn("A reason is one sufficient reason", self.winter())
+        for words in ("a shadow price and no money", "the tenths decide"):
+            self.assertIn(words, self.winter("--arithmetic"))
+            self.assertNotIn(words, self.winter())
 
     def test_bumped_lines(self) -> None:
         out = self.report(TWO_LINES, TWO_LINES_ANSWER + "bumped,2,7,,,,,\n", TWO_LINES_TOLD)[0]
@@ -129,15 +143,15 @@ class Texts(ReportTest):
         question = POOL_CUT.replace("line,R1,P1,1,100,100", "line,R1,P1,1,0,100")
         answer = "sched,1,40,,,,,\nsched,2,40,,,,,\nprice,P1,1,1,-5,,,\n"
         out = self.report(question, answer, "best,,,,,,,\ntotal,1,80,,,,,\n")[0]
-        self.assertIn("1 line out of P1, all at the ceiling, so no more can leave it", out)
+        self.assertIn("1 line out of P1 is at the confirmed quantity, so no more can leave it", out)
 
     def test_a_pool_into_which_no_more_is_brought(self) -> None:
         """Line 1 brings all its 30, so line 2 can't take more: taking out of the pool costs what its dekatherm is worth."""
         question = POOL_CUT.replace("line,R1,P1,1,100,100", "line,R1,P1,1,0,30").replace("line,P1,D1,1,40", "line,P1,D1,1,0")
         answer = "sched,1,30,,,,,\nsched,2,30,,,,,\nprice,P1,1,-1,8,,,\n"
         out = self.report(question, answer, "best,,,,,,,\ntotal,1,60,,,,,\n")[0]
-        self.assertIn("at pool P1 as much must enter as leaves, and 1 line into P1, all at the ceiling, so no more can be"
-                      " brought into it; class 1 gas of tenth 8 would be displaced", out)
+        self.assertIn("by balance at pool P1: as much must enter as leaves (30), and 1 line into P1 is at the confirmed quantity,"
+                      " so no more can be brought into it\n", out)
 
 
 class Tables(ReportTest):
@@ -178,13 +192,15 @@ class Json(ReportTest):
 
     def test_a_schedule(self) -> None:
         whole = self.whole(TWO_LINES, TWO_LINES_ANSWER, TWO_LINES_TOLD)
-        self.assertEqual((whole["report"], whole["version"]), ("gasday-report", 1))
+        self.assertEqual((whole["report"], whole["version"]), ("gasday-report", 2))
         self.assertEqual((whole["passed"], whole["kind"]), (True, "best"))
         self.assertEqual(whole["question"], {"book": "DEMO", "cycle": 1, "round": 1})
         self.assertEqual(whole["totals"], [{"class": 1, "ceiling": 80, "scheduled": 80},
                                            {"class": 4, "ceiling": 50, "scheduled": 20}])
-        self.assertEqual(whole["lines"][0]["reason"], None)
-        self.assertEqual((whole["lines"][1]["short"], whole["lines"][1]["reason"]["elements"]), (30, ["S1"]))
+        self.assertEqual((whole["lines"][0]["causes"], whole["lines"][0]["arithmetic"]), ([], None))
+        cause = {"kind": "capacity", "before": 50, "after": 20, "element": "S1", "capacity": 100, "load": 100, "first_class": 4}
+        self.assertEqual((whole["lines"][1]["short"], whole["lines"][1]["causes"]), (30, [cause]))
+        self.assertEqual(whole["lines"][1]["arithmetic"]["tenth"], 5)
         price = {"classes": [0, 0, 0, 1, 0, 0, 0, 0], "spread": [0, 0, 0, -4, 0, 0, 0, 0]}
         self.assertEqual(whole["elements"][0]["price"], price)
         self.assertEqual(whole["inputs"][0]["sha256"], hashlib.sha256(TWO_LINES.encode()).hexdigest())

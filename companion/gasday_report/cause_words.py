@@ -1,0 +1,115 @@
+"""Why a line has less than was nominated, in words of the trade; and the arithmetic behind it."""
+
+from collections.abc import Callable, Iterator, Sequence
+
+from .causes import ELAPSED, HIGHER_CLASS, SILENCE, AnswerCause, Cause, ElementCause, EndAnswer, PoolCause
+from .reasons import Reason
+from .sharing import MOST_SHARERS, ClassShare, Sharing
+from .words import counted, displaced, grouped, listed
+
+# What a line is called where others may read of it; empty where they may not.
+Label = Callable[[int], str]
+
+
+def line_number(number: int) -> str:
+    return f"line {number}"
+
+
+def unnamed(_: int) -> str:
+    return ""
+
+
+def answer_words(answer: EndAnswer) -> str:
+    where = f"{answer.operator} at the {answer.end}" if answer.operator else f"the {answer.end}'s operator"
+    return f"{where} confirmed {grouped(answer.quantity)}" if answer.quantity is not None else f"{where} was silent"
+
+
+def kept_words(cycle: int) -> str:
+    return "what was carried over from the day before" if cycle == 1 else "what was scheduled before"
+
+
+def answer_cause_words(cause: AnswerCause, cycle: int) -> str:
+    """That less than was nominated came through the confirmation, or that a silent end kept something else."""
+    answers = listed(map(answer_words, cause.answers))
+    if cause.kind == ELAPSED:
+        return (f"{grouped(cause.before)} nominated and less than {grouped(cause.after)} confirmed ({answers}), but"
+                f" {grouped(cause.after)} has flowed already")
+    if cause.kind != SILENCE:
+        return f"reduced from {grouped(cause.before)} to {grouped(cause.after)} by confirmation: {answers}"
+    verb = "reduced" if cause.after < cause.before else "raised"
+    return (f"{verb} from {grouped(cause.before)} to {grouped(cause.after)} by silence: {answers}, so {kept_words(cycle)} stands,"
+            f" {grouped(cause.after)}")
+
+
+def sharer_words(share: ClassShare, label: Label) -> str:
+    """The lines of a class with what each has, those with most first."""
+    named = [f"{label(line.line)} {grouped(line.scheduled)}" for line in share.greatest if label(line.line)]
+    more = [f"{counted(share.lines - len(named), 'other line')}"] if named and share.lines > len(named) else []
+    return f" ({listed(named + more)})" if named else ""
+
+
+def class_words(sharing: Sharing, own_class: int, label: Label) -> str:
+    """How much each class has of an element. Floors are told where a lower class flows though it goes behind."""
+    parts = []
+    for share in sharing.classes:
+        floor = f", {grouped(share.floor)} of it floors" if share.class_number > own_class and share.floor else ""
+        if share.scheduled or share.class_number == own_class:
+            parts.append(f"class {share.class_number} has {grouped(share.scheduled)}{floor}{sharer_words(share, label)}")
+    return listed(parts)
+
+
+def full_words(sharing: Sharing) -> str:
+    if sharing.capacity == 0:
+        return f"{sharing.element} is closed, with a capacity of 0"
+    usual = f" (usually {grouped(sharing.usual)})" if sharing.usual != sharing.capacity else ""
+    return f"{sharing.element} is full, {grouped(sharing.load)} of {grouped(sharing.capacity)}{usual}"
+
+
+def element_words(cause: ElementCause, own_class: int, label: Label) -> str:
+    rule = (f"gas of class {cause.first_class} goes before gas of class {own_class}" if cause.kind == HIGHER_CLASS
+            else f"the lines of class {own_class} share what higher classes and floors leave")
+    shared = class_words(cause.sharing, own_class, label)
+    return f"{full_words(cause.sharing)}{': ' + shared if shared else ''}; {rule}"
+
+
+def pool_words(cause: PoolCause, own_class: int, label: Label) -> str:
+    rule = "as much must leave as enters" if cause.leaving else "as much must enter as leaves"
+    ways, side = ("leave it", "out of") if cause.leaving else ("be brought into it", "into")
+    through = f" (by way of {listed(cause.through[:MOST_SHARERS])})" if cause.through else ""
+    head = f"by balance at pool {cause.pool}: {rule} ({grouped(cause.load)})"
+    if cause.full:
+        named = [f"{full_words(one)}: {class_words(one, own_class, label)}" for one in cause.full]
+        more = [f"{counted(cause.more_full, 'more element')}"] if cause.more_full else []
+        return f"{head}, and more could {ways}{through} only past what is full: {'; '.join(named + more)}"
+    of = listed([cause.pool, *cause.through[:MOST_SHARERS]])
+    if not cause.filled_lines:
+        return f"{head}, and no line leads {side} {of}"
+    verb = "is" if cause.filled_lines == 1 else "are"
+    return (f"{head}, and {counted(cause.filled_lines, 'line')} {side} {of} {verb} at the confirmed quantity, so no more can"
+            f" {ways}{through}")
+
+
+def cause_words(cause: Cause, cycle: int, own_class: int, label: Label) -> str:
+    if isinstance(cause, AnswerCause):
+        return answer_cause_words(cause, cycle)
+    if isinstance(cause, ElementCause):
+        return element_words(cause, own_class, label)
+    if isinstance(cause, PoolCause):
+        return pool_words(cause, own_class, label)
+    return "why can't be told from the day's text and from what was told"
+
+
+def words_of(causes: Sequence[Cause], cycle: int, own_class: int, label: Label) -> list[str]:
+    return [cause_words(cause, cycle, own_class, label) for cause in causes]
+
+
+def arithmetic_words(reason: Reason) -> Iterator[str]:
+    """What the next dekatherm would displace, element by element, and what it is worth."""
+    for element, amount in reason.paid:
+        yield f"at {element} {displaced(amount)}"
+    for element, amount in reason.back:
+        yield f"in return, at {element}, {displaced(amount)}"
+    if reason.more:
+        yield f"{counted(reason.more, 'more element')} of its route with a price"
+    worth = "is worth less than all that" if reason.is_less else "is worth just that, so nothing would be gained"
+    yield f"its next dekatherm, of class {reason.class_number} and tenth {reason.tenth}, {worth}"

@@ -1,0 +1,80 @@
+"""Who shares an element: the lines that pass it, and how much of it each class and each line has."""
+
+import heapq
+from collections.abc import Iterable, Iterator, Mapping, Sequence
+from dataclasses import dataclass
+
+from certificate import Line, Question
+
+# So many lines of a class are named where it shares an element, and the rest are counted.
+MOST_SHARERS = 4
+
+
+@dataclass(frozen=True)
+class Share:
+    """What a line has of an element."""
+
+    line: int
+    class_number: int
+    floor: int
+    scheduled: int
+
+
+@dataclass(frozen=True)
+class ClassShare:
+    """What the lines of a class have of an element together."""
+
+    class_number: int
+    lines: int
+    floor: int
+    scheduled: int
+    greatest: tuple[Share, ...]  # the lines that have most, those first
+
+
+@dataclass(frozen=True)
+class Sharing:
+    """An element that is full, with all who pass it."""
+
+    element: str
+    kind: str
+    capacity: int
+    usual: int  # the capacity that the pipeline has without a posted one
+    load: int
+    classes: tuple[ClassShare, ...]
+    lines: tuple[Share, ...]
+
+
+def class_shares(shares: Iterable[Share]) -> Iterator[ClassShare]:
+    by_class: dict[int, list[Share]] = {}
+    for share in shares:
+        by_class.setdefault(share.class_number, []).append(share)
+    for number, lines in sorted(by_class.items()):
+        greatest = heapq.nsmallest(MOST_SHARERS, lines, key=lambda share: (-share.scheduled, share.line))
+        yield ClassShare(number, len(lines), sum(share.floor for share in lines), sum(share.scheduled for share in lines),
+                         tuple(greatest))
+
+
+class Sharings:
+    """Looks up who shares a segment or a point of a question, each once."""
+
+    def __init__(self, question: Question, quantities: Sequence[int], loads: Mapping[str, int], usual: Mapping[str, int]) -> None:
+        self.question, self.quantities, self.loads, self.usual = question, quantities, loads, usual
+        self.place_below = {name: place for place, name in enumerate(question.segment_at) if name}
+        self.found: dict[str, Sharing] = {}
+
+    def passes(self, line: Line, name: str) -> bool:
+        """A line passes a segment where one of its ends alone stands below it."""
+        if self.question.elements[name].kind != "segment":
+            return name in (line.origin, line.destination)
+        place = self.place_below[name]
+        ends = [self.question.has_below(place, self.question.place_of(end)) for end in (line.origin, line.destination)]
+        return ends[0] != ends[1]
+
+    def of(self, name: str) -> Sharing:
+        if name not in self.found:
+            element = self.question.elements[name]
+            lines = tuple(Share(number, line.class_number, line.floor, quantity) for number, (line, quantity)
+                          in enumerate(zip(self.question.lines, self.quantities, strict=True), 1) if self.passes(line, name))
+            self.found[name] = Sharing(name, element.kind, element.capacity, self.usual.get(name, element.capacity),
+                                       self.loads[name], tuple(class_shares(lines)), lines)
+        return self.found[name]
