@@ -6,7 +6,7 @@ import sys
 from collections.abc import Sequence
 from typing import TextIO
 
-from . import csv_format, html_format, json_format, making, text_format
+from . import csv_format, html_format, json_format, making, notices, text_format
 from .ending import ends_in_order
 from .options import arguments_of
 from .report import Report
@@ -14,7 +14,10 @@ from .texts import Fault
 
 
 def report_of(arguments: argparse.Namespace) -> Report:
-    return making.report_of(arguments)
+    report = making.report_of(arguments)
+    if arguments.notices is not None and report.day:
+        notices.write_notices(report, report.day, arguments.notices)
+    return report
 
 
 def print_report(report: Report, arguments: argparse.Namespace, out: TextIO) -> None:
@@ -23,6 +26,8 @@ def print_report(report: Report, arguments: argparse.Namespace, out: TextIO) -> 
             csv_format.print_csv(report, arguments.table, out)
         # A table has no place for verdicts.
         sys.stderr.writelines(row + "\n" for row in text_format.verdict_rows(report))
+    elif arguments.notices is not None:
+        out.writelines(row + "\n" for row in text_format.checks_of(report))
     elif arguments.format == "text":
         text_format.print_text(report, out, arguments.arithmetic)
     else:

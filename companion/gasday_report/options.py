@@ -20,6 +20,8 @@ def parser_of() -> argparse.ArgumentParser:
     parser.add_argument("--book", metavar="FILE", help="the file of a book, made by `gasday day --book`, in place of both")
     parser.add_argument("--archive", metavar="FILE", help="an archive with the postings of the gas day; or with --posting")
     parser.add_argument("--posting", nargs=2, metavar=("BOOK", "CYCLE"), help="one posting of the archive, without its day")
+    parser.add_argument("--notices", metavar="FOLDER",
+                        help="writes for each cycle a notice to each shipper and each operator, and a public page")
     parser.add_argument("--gasday", metavar="PROGRAM", help="else the built one, else the one on the PATH")
     parser.add_argument("--certificate-alone", action="store_true",
                         help="checks an answer with certificate.py alone, and says so; no program is asked")
@@ -51,6 +53,8 @@ def usage_fault(given: argparse.Namespace) -> str:
         (given.arithmetic and given.format != "text", "--arithmetic goes with --format text; the others have it"),
         (given.certificate_alone and (has_day or given.gasday is not None),
          "--certificate-alone goes with QUESTION and ANSWER or with --posting, and asks no program"),
+        (given.notices is not None and (not has_day or given.format != "text"),
+         "--notices goes with a gas day, and has no --format"),
     )
     return next((words for is_wrong, words in faults if is_wrong), "")
 

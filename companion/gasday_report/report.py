@@ -30,3 +30,7 @@ class Report:
         if self.program is None:
             return ALONE
         return f"Checked by {self.program.path}, {self.program.version}, SHA-256 {self.program.sha256}"
+
+    def published_by(self) -> str:
+        """The same for people elsewhere, whom a path of this machine doesn't concern."""
+        return f"Checked by {self.program.version}, SHA-256 {self.program.sha256}" if self.program else ALONE

@@ -3,6 +3,7 @@
 import os
 import sqlite3
 from contextlib import closing
+from pathlib import Path
 
 from helpers import VERSION, ReportTest, example
 from test_day import CALENDAR, EVENTS, REPLIES
@@ -51,6 +52,10 @@ class DayTest(ReportTest):
     def day(self, *words: str, program: str = "", replies: str = REPLIES) -> tuple[str, str, object]:
         paths = self.path("events.csv", EVENTS), self.path("replies.csv", replies)
         return self.run_command("--events", paths[0], "--replies", paths[1], "--gasday", program or self.gasday(), *words)
+
+    def files(self, name: str) -> dict[str, str]:
+        folder = Path(self.folder.name) / name
+        return {str(path.relative_to(folder)): path.read_text() for path in sorted(folder.rglob("*")) if path.is_file()}
 
 
 FIVE_CYCLES = example("gas-day/five-cycles.csv")

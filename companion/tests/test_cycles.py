@@ -1,5 +1,5 @@
 """A gas day cycle by cycle: who nominated and confirmed what, and why a line has less; that question, answer and day belong
-together. The day of five cycles is that of examples/README.md, worked out there by hand, and needs the built
+together; and notices. The day of five cycles is that of examples/README.md, worked out there by hand, and needs the built
 program, or the one that GASDAY names in the environment."""
 
 import csv
@@ -102,7 +102,8 @@ class Told(DayTest):
     def test_calls_that_do_not_go_together(self) -> None:
         path = self.path("x", "")
         for words in (("--book", path, "--events", path), ("--posting", "DEMO", "1"), ("--archive", path), ("--events", path),
-                      ("--replies", path), ("--certificate-alone", "--book", path), (path, path, "--arithmetic", "--format", "json"), (path, path, "--format", "csv", "--table", "cycle-lines")):
+                      ("--replies", path), ("--certificate-alone", "--book", path), (path, path, "--notices", path),
+                      (path, path, "--arithmetic", "--format", "json"), (path, path, "--format", "csv", "--table", "cycle-lines")):
             self.assertEqual(self.run_command(*words)[2], 2, words)
 
     def test_question_answer_and_day(self) -> None:
@@ -209,6 +210,36 @@ class FiveCycles(DayTest):
         cycles = self.cycles()
         self.assertEqual([bool(cycle["skipped"]) for cycle in cycles], [False, False, False, True, False])
         self.assertIn("Cycle 4, Intraday 2: skipped: the former schedule stays in effect\n", self.made()[0])
+
+    def test_notices(self) -> None:
+        folder = str(Path(self.folder.name) / "notices")
+        out, error, status = self.made("--notices", folder)
+        self.assertEqual((error, status), ("", 0))
+        files = self.files("notices")
+        cycle = {name.partition("/")[2] for name in files if name.startswith("cycle-2-round-2/")}
+        parties = ("shipper-UTILITY", "shipper-TRADER", "operator-PLANT-OPS", "operator-MILL-OPS", "operator-TOWN-OPS")
+        self.assertEqual(cycle, {"constraints.html", *(f"{party}.{kind}" for party in parties for kind in ("txt", "csv"))})
+        self.assertEqual({name.partition("/")[0] for name in files}, {
+            "cycle-1-round-1", "cycle-2-round-2", "cycle-3-round-3", "cycle-3-round-4", "cycle-4-round-5", "cycle-4-skipped",
+            "cycle-5-round-6"})
+        for name, text in files.items():
+            if "shipper-TRADER" in name or "operator-MILL" in name or "constraints" in name:
+                self.assertNotIn("UTILITY", text, name)
+                self.assertNotIn("HEAT", text, name)
+            if "constraints" in name:
+                self.assertNotIn("TRADER", text, name)
+        self.assertIn("TRUNK is full, 50,000 of 50,000: class 1 has 40,000 and class 4 has 10,000",
+                      files["cycle-2-round-2/shipper-TRADER.txt"])
+        rows = list(csv.DictReader(io.StringIO(files["cycle-2-round-2/operator-MILL-OPS.csv"])))
+        self.assertEqual([(row["line"], row["scheduled"]) for row in rows], [("2", "10000")])
+        # A second time all is there; what is there with something else stays.
+        self.assertIn("0 files written", self.made("--notices", folder)[0])
+        other = Path(folder) / "cycle-1-round-1" / "shipper-TRADER.txt"
+        other.write_text("something else")
+        (Path(folder) / "cycle-5-round-6" / "constraints.html").unlink()
+        _, error, status = self.made("--notices", folder)
+        self.assertEqual((status, other.read_text()), (2, "something else"))
+        self.assertFalse((Path(folder) / "cycle-5-round-6" / "constraints.html").exists())
 
 
 if __name__ == "__main__":
