@@ -19,9 +19,15 @@ def unnamed(_: int) -> str:
     return ""
 
 
-def answer_words(answer: EndAnswer) -> str:
-    where = f"{answer.operator} at the {answer.end}" if answer.operator else f"the {answer.end}'s operator"
-    return f"{where} confirmed {grouped(answer.quantity)}" if answer.quantity is not None else f"{where} was silent"
+def end_words(answer: EndAnswer) -> str:
+    return f"{answer.operator} at the {answer.end}" if answer.operator else f"the {answer.end}'s operator"
+
+
+def answer_words(answers: Sequence[EndAnswer]) -> str:
+    """What operators confirmed, and who was silent."""
+    silent = [end_words(answer) for answer in answers if answer.quantity is None]
+    told = [f"{end_words(answer)} confirmed {grouped(answer.quantity)}" for answer in answers if answer.quantity is not None]
+    return listed(told + ([f"{listed(silent)} {'was' if len(silent) == 1 else 'were'} silent"] if silent else []))
 
 
 def kept_words(cycle: int) -> str:
@@ -30,15 +36,15 @@ def kept_words(cycle: int) -> str:
 
 def answer_cause_words(cause: AnswerCause, cycle: int) -> str:
     """That less than was nominated came through the confirmation, or that a silent end kept something else."""
-    answers = listed(map(answer_words, cause.answers))
+    answers = answer_words(cause.answers)
     if cause.kind == ELAPSED:
         return (f"{grouped(cause.before)} nominated and less than {grouped(cause.after)} confirmed ({answers}), but"
                 f" {grouped(cause.after)} has flowed already")
     if cause.kind != SILENCE:
         return f"reduced from {grouped(cause.before)} to {grouped(cause.after)} by confirmation: {answers}"
     verb = "reduced" if cause.after < cause.before else "raised"
-    return (f"{verb} from {grouped(cause.before)} to {grouped(cause.after)} by silence: {answers}, so {kept_words(cycle)} stands,"
-            f" {grouped(cause.after)}")
+    return (f"{verb} from {grouped(cause.before)} to {grouped(cause.after)} by silence: {answers}, so {kept_words(cycle)}"
+            f" stands, {grouped(cause.after)}")
 
 
 def sharer_words(share: ClassShare, label: Label) -> str:
@@ -52,7 +58,8 @@ def class_words(sharing: Sharing, own_class: int, label: Label) -> str:
     """How much each class has of an element. Floors are told where a lower class flows though it goes behind."""
     parts = []
     for share in sharing.classes:
-        floor = f", {grouped(share.floor)} of it floors" if share.class_number > own_class and share.floor else ""
+        amount = "all" if share.floor == share.scheduled else grouped(share.floor)
+        floor = f", {amount} of it floors" if share.class_number > own_class and share.floor else ""
         if share.scheduled or share.class_number == own_class:
             parts.append(f"class {share.class_number} has {grouped(share.scheduled)}{floor}{sharer_words(share, label)}")
     return listed(parts)
@@ -66,8 +73,10 @@ def full_words(sharing: Sharing) -> str:
 
 
 def element_words(cause: ElementCause, own_class: int, label: Label) -> str:
+    own = [share.lines for share in cause.sharing.classes if share.class_number == own_class]
+    rest = "goes to this line" if own == [1] else f"is shared by the lines of class {own_class}"
     rule = (f"gas of class {cause.first_class} goes before gas of class {own_class}" if cause.kind == HIGHER_CLASS
-            else f"the lines of class {own_class} share what higher classes and floors leave")
+            else f"what is left {rest}")
     shared = class_words(cause.sharing, own_class, label)
     return f"{full_words(cause.sharing)}{': ' + shared if shared else ''}; {rule}"
 

@@ -12,7 +12,8 @@ from .rounds import CycleFacts, RoundFacts, RoundLine
 from .words import CYCLES, counted, grouped, listed
 
 WAIVER_NOTE = ("What waiving a line would free is what its floor falls by, as gasday tells where it is waived and the cycle"
-               " frozen again. It says nothing about who should waive; and where this set is no cut any more, another one may be.")
+               " frozen again. It says nothing about who should waive; and where this set is no cut any more, another one may"
+               " be.")
 
 
 def label_of(line: RoundLine) -> str:
@@ -49,7 +50,7 @@ def freed_words(line: RoundLine, excess: int) -> str:
     if line.freed is None:
         return ""
     enough = ": enough that this set is no cut" if line.freed >= excess else ""
-    return f"waiving it would free {grouped(line.freed)} of the {grouped(excess)} too many{enough}"
+    return f"waiving it would free {grouped(line.freed)}, where {grouped(excess)} are too many{enough}"
 
 
 def reasons_of(line: RoundLine, cycle: int, label: Label) -> list[str]:
@@ -100,10 +101,10 @@ def round_line_rows(line: RoundLine, made: RoundFacts, label: Label, arithmetic:
     yield from (f"    why: {words}" for words in reasons_of(line, cycle, label))
     if arithmetic and line.reason:
         yield from (f"    arithmetic: {words}" for words in arithmetic_words(line.reason))
-    if made.facts and made.facts.sums and line.cut_way:
+    if made.facts and made.facts.sums and line.cut_quantity:
         way = "leaves the cut's set with its floor" if line.cut_way == "out" else "can come back with its confirmed quantity"
         freed = freed_words(line, made.facts.sums.excess)
-        yield f"    {way}, {grouped(line.cut_quantity or 0)}{'; ' + freed if freed else ''}"
+        yield f"    {way}, {grouped(line.cut_quantity)}{'; ' + freed if freed else ''}"
 
 
 def round_rows(made: RoundFacts, clock: Clock, arithmetic: bool) -> Iterator[str]:

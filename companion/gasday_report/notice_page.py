@@ -55,8 +55,8 @@ def cut_html(facts: Facts) -> str:
     assert facts.sums
     ways = [f"{element.name} ({grouped(element.cut_capacity)})" for element in facts.elements
             if element.cut_capacity is not None]
-    return section("No schedule is possible", f"<p>{grouped(facts.sums.excess)} dekatherms more must leave the part of the pipeline"
-                   f" that is named here than can: {escape(set_in_words(facts))}.</p>"
+    return section("No schedule is possible", f"<p>{grouped(facts.sums.excess)} dekatherms more must leave the part of the"
+                   f" pipeline that is named here than can: {escape(set_in_words(facts))}.</p>"
                    f"<p>Out of it lead: {escape(listed(ways) or 'nothing')}.</p>")
 
 

@@ -33,7 +33,7 @@ class ClassShare:
 
 @dataclass(frozen=True)
 class Sharing:
-    """An element that is full, with all who pass it."""
+    """An element that is full, with all lines that may pass it: those of which something was confirmed."""
 
     element: str
     kind: str
@@ -73,8 +73,9 @@ class Sharings:
     def of(self, name: str) -> Sharing:
         if name not in self.found:
             element = self.question.elements[name]
-            lines = tuple(Share(number, line.class_number, line.floor, quantity) for number, (line, quantity)
-                          in enumerate(zip(self.question.lines, self.quantities, strict=True), 1) if self.passes(line, name))
+            numbered = enumerate(zip(self.question.lines, self.quantities, strict=True), 1)
+            lines = tuple(Share(number, line.class_number, line.floor, quantity) for number, (line, quantity) in numbered
+                          if line.ceiling and self.passes(line, name))
             self.found[name] = Sharing(name, element.kind, element.capacity, self.usual.get(name, element.capacity),
                                        self.loads[name], tuple(class_shares(lines)), lines)
         return self.found[name]

@@ -31,10 +31,10 @@ class Told(DayTest):
         self.assertIn("PASS  the posting of each round: rounds 1, 2: it has the question", out)
         self.assertIn("PASS  gasday check best: rounds 1, 2: ", out)
         self.assertIn("  Line 1: SHIP, contract INT, package P, R1 to D1, class 4\n"
-                      "      nominated 70, confirmed 70 (by silence, scheduled before: 70; OPR silent at the origin, OPD silent at"
-                      " the destination), floor 0, scheduled 50, bumped by 20\n"
-                      "      why: S1 is full, 100 of 100: class 1 has 50 (line 2 SHIP FIRM 50) and class 4 has 50 (line 1 SHIP INT"
-                      " 50); the lines of class 4 share what higher classes and floors leave\n", out)
+                      "      nominated 70, confirmed 70 (by silence, scheduled before: 70; OPR silent at the origin, OPD silent"
+                      " at the destination), floor 0, scheduled 50, bumped by 20\n"
+                      "      why: S1 is full, 100 of 100: class 1 has 50 (line 2 SHIP FIRM 50) and class 4 has 50 (line 1 SHIP"
+                      " INT 50); what is left goes to this line\n", out)
         self.assertNotIn("tenth", out)
         self.assertIn("arithmetic: its next dekatherm, of class 4 and tenth 8, is worth just that", self.day("--arithmetic")[0])
 
@@ -103,7 +103,8 @@ class Told(DayTest):
         path = self.path("x", "")
         for words in (("--book", path, "--events", path), ("--posting", "DEMO", "1"), ("--archive", path), ("--events", path),
                       ("--replies", path), ("--certificate-alone", "--book", path), (path, path, "--notices", path),
-                      (path, path, "--arithmetic", "--format", "json"), (path, path, "--format", "csv", "--table", "cycle-lines")):
+                      (path, path, "--arithmetic", "--format", "json"),
+                      (path, path, "--format", "csv", "--table", "cycle-lines")):
             self.assertEqual(self.run_command(*words)[2], 2, words)
 
     def test_question_answer_and_day(self) -> None:
@@ -167,8 +168,9 @@ class FiveCycles(DayTest):
 
     def test_quantities(self) -> None:
         """Of each round and line: nominated, confirmed, by what, floor, scheduled and bumped."""
-        found = {made["round"]: [[line[name] for name in ("nominated", "confirmed", "confirmed_by", "floor", "scheduled", "bumped")]
-                                 for line in made["lines"]] for cycle in self.cycles() for made in cycle["rounds"]}
+        names = ("nominated", "confirmed", "confirmed_by", "floor", "scheduled", "bumped")
+        found = {made["round"]: [[line[name] for name in names] for line in made["lines"]]
+                 for cycle in self.cycles() for made in cycle["rounds"]}
         self.assertEqual(found, {
             1: [[30000, 30000, "nomination", 0, 30000, 0], [15000, 15000, "nomination", 0, 15000, 0],
                 [5000, 0, "silence", 0, 0, 0]],
@@ -191,7 +193,8 @@ class FiveCycles(DayTest):
         self.assertEqual([(share["class"], share["scheduled"]) for share in rounds[2]["answer"]["sharing"][0]["classes"]],
                          [(1, 40000), (4, 10000)])
         first = rounds[4]["answer"]["sharing"][0]
-        self.assertEqual((first["element"], first["capacity"], first["usual_capacity"], first["load"]), ("TRUNK", 36000, 50000, 36000))
+        self.assertEqual([first[name] for name in ("element", "capacity", "usual_capacity", "load")],
+                         ["TRUNK", 36000, 50000, 36000])
         silent = rounds[1]["lines"][2]["causes"][0]
         self.assertEqual((silent["kind"], silent["before"], silent["after"]), ("silence", 5000, 0))
         self.assertEqual(silent["answers"], [{"end": "destination", "operator": "TOWN-OPS", "confirmed": None}])

@@ -89,8 +89,8 @@ class Texts(ReportTest):
         out = self.report(TWO_LINES, TWO_LINES_ANSWER, TWO_LINES_TOLD)[0]
         self.assertIn("Line 1: R1 to D1, class 1: floor 0, confirmed 80, scheduled 80\n", out)
         self.assertIn("Line 2: R1 to D1, class 4: floor 0, confirmed 50, scheduled 20, short by 30\n"
-                      "    why: S1 is full, 100 of 100: class 1 has 80 (line 1 80) and class 4 has 20 (line 2 20); the lines of class"
-                      " 4 share what higher classes and floors leave\n", out)
+                      "    why: S1 is full, 100 of 100: class 1 has 80 (line 1 80) and class 4 has 20 (line 2 20); what is"
+                      " left goes to this line\n", out)
         self.assertIn("segment S1: 100 of 100, room 0 (full)\n", out)
         self.assertIn("receipt point R1: 100 of 1,000, room 900\n", out)
         self.assertNotIn("tenth", out)
@@ -103,8 +103,8 @@ class Texts(ReportTest):
 
     def test_a_reason_is_traced_through_a_pool(self) -> None:
         out = self.winter()
-        self.assertIn("why: by balance at pool MERGE-POOL: as much must leave as enters (16,751), and more could leave it only past"
-                      " what is full: TRUNK-1 is full, 80,000 of 80,000 (usually 100,000): class 1 has 53,000 (", out)
+        self.assertIn("why: by balance at pool MERGE-POOL: as much must leave as enters (16,751), and more could leave it only"
+                      " past what is full: TRUNK-1 is full, 80,000 of 80,000 (usually 100,000): class 1 has 53,000 (", out)
         self.assertIn("pool MERGE-POOL: 16,751 in and 16,751 out\n", out)
 
     def test_gas_of_a_higher_class_goes_first(self) -> None:
