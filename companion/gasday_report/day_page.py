@@ -19,10 +19,11 @@ from .page_tables import (
     round_cut_table,
     round_line_table,
     sharing_table,
+    shown_sharings,
 )
 from .rounds import CycleFacts, RoundFacts
 from .timeline import timeline_of
-from .words import CYCLES
+from .words import CYCLES, counted
 
 TIMELINE_NOTE = "Green: published or skipped. Red: refused, or no schedule. Blue: all other calls. Hover for what was told."
 
@@ -64,8 +65,11 @@ def cycles_table(day: Day) -> Table:
 
 
 def schedule_parts(made: RoundFacts, facts: Facts, name: str) -> list[str]:
+    left_out = len(facts.sharings) - len(shown_sharings(facts))
+    more = (f'<p class="warn">{counted(left_out, "more element")}: --format csv --table cycle-sharing has all.</p>'
+            if left_out else "")
     sharing = ["<h4>Who shares what is full</h4>", notes_html(constraint_words(facts)),
-               table_html(sharing_table(made, facts, f"sharing-{name}"))] if facts.sharings else []
+               table_html(sharing_table(made, facts, f"sharing-{name}")), more] if facts.sharings else []
     return [counts_html(facts), totals_html(facts), picture_html(facts, f"elements-{name}"), "<h4>Lines</h4>",
             table_html(round_line_table(made, f"lines-{name}")), *sharing, "<h4>Segments, points and pools</h4>",
             table_html(element_table(facts, f"elements-{name}"))]

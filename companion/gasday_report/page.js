@@ -248,6 +248,7 @@ class Picture {
 
   press(event) {
     this.pointers.set(event.pointerId, {x: event.clientX, y: event.clientY});
+    this.pressed = {x: event.clientX, y: event.clientY};
     this.moved = false;
   }
 
@@ -260,7 +261,7 @@ class Picture {
     const last = this.pointers.get(event.pointerId);
     if (!last) return;
     const dx = event.clientX - last.x, dy = event.clientY - last.y, before = this.pointers.size === 2 ? this.apart() : 0;
-    if (Math.abs(dx) + Math.abs(dy) > 3) this.moved = true;
+    if (Math.hypot(event.clientX - this.pressed.x, event.clientY - this.pressed.y) > 4) this.moved = true;
     this.pointers.set(event.pointerId, {x: event.clientX, y: event.clientY});
     if (this.pointers.size === 2) this.zoom(this.apart() / Math.max(before, 1));
     else this.move(dx, dy);

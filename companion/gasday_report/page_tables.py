@@ -10,9 +10,10 @@ from .day_text import confirmed_words, freed_words, labels_of, reasons_of
 from .facts import ElementFact, Facts, LineFact
 from .reasons import Reason
 from .rounds import RoundFacts, RoundLine
+from .sharing import Sharing
 from .words import price_in_words
 
-MOST_DETAILS = 12
+MOST_DETAILS, MOST_SHARES = 12, 5_000
 ARITHMETIC = "show the arithmetic"
 
 
@@ -160,13 +161,23 @@ def round_cut_table(made: RoundFacts, excess: int, name: str) -> Table:
     return {"id": name, "columns": columns, "rows": rows, "marks": [mark("crossing", 11, "crosses")], "choice": 1}
 
 
+def shown_sharings(facts: Facts) -> list[Sharing]:
+    """Those that the page has room for: there may be hundreds of elements, each with thousands of lines."""
+    shown: list[Sharing] = []
+    for sharing in facts.sharings:
+        if shown and sum(len(one.lines) for one in shown) + len(sharing.lines) > MOST_SHARES:
+            break
+        shown.append(sharing)
+    return shown
+
+
 def sharing_table(made: RoundFacts, facts: Facts, name: str) -> Table:
     """Who shares what is full, element by element and line by line."""
     columns = [column("element", name=True), *numbers("capacity", "load"), column("class", number=True),
                column("line", number=True), column("shipper", name=True), column("contract", name=True),
                *numbers("floor", "scheduled")]
     rows: list[list[Cell]] = []
-    for sharing in facts.sharings:
+    for sharing in shown_sharings(facts):
         for share in sharing.lines:
             at = made.lines[share.line - 1].line
             rows.append([sharing.element, sharing.capacity, sharing.load, share.class_number, share.line, at.shipper, at.contract,

@@ -4,7 +4,7 @@ import heapq
 from collections.abc import Iterable, Iterator, Mapping, Sequence
 from dataclasses import dataclass
 
-from certificate import Line, Question
+from certificate import Question
 
 # So many lines of a class are named where it shares an element, and the rest are counted.
 MOST_SHARERS = 4
@@ -60,22 +60,29 @@ class Sharings:
     def __init__(self, question: Question, quantities: Sequence[int], loads: Mapping[str, int], usual: Mapping[str, int]) -> None:
         self.question, self.quantities, self.loads, self.usual = question, quantities, loads, usual
         self.place_below = {name: place for place, name in enumerate(question.segment_at) if name}
+        # Of each line with its number from 0 where its ends stand in the tree, and the lines of each point.
+        self.places = [(question.first[question.place_of(line.origin)], question.first[question.place_of(line.destination)])
+                       for line in question.lines]
+        self.at_end: dict[str, list[int]] = {}
+        for number, line in enumerate(question.lines):
+            for end in (line.origin, line.destination):
+                self.at_end.setdefault(end, []).append(number)
         self.found: dict[str, Sharing] = {}
 
-    def passes(self, line: Line, name: str) -> bool:
-        """A line passes a segment where one of its ends alone stands below it."""
+    def passing(self, name: str) -> list[int]:
+        """The lines that pass an element: a segment where one of their ends alone stands below it."""
         if self.question.elements[name].kind != "segment":
-            return name in (line.origin, line.destination)
+            return self.at_end.get(name, [])
         place = self.place_below[name]
-        ends = [self.question.has_below(place, self.question.place_of(end)) for end in (line.origin, line.destination)]
-        return ends[0] != ends[1]
+        low, high = self.question.first[place], self.question.first[place] + self.question.size[place]
+        return [number for number, (start, end) in enumerate(self.places) if (low <= start < high) != (low <= end < high)]
 
     def of(self, name: str) -> Sharing:
         if name not in self.found:
             element = self.question.elements[name]
-            numbered = enumerate(zip(self.question.lines, self.quantities, strict=True), 1)
-            lines = tuple(Share(number, line.class_number, line.floor, quantity) for number, (line, quantity) in numbered
-                          if line.ceiling and self.passes(line, name))
+            numbered = [(number, self.question.lines[number]) for number in self.passing(name)]
+            lines = tuple(Share(number + 1, line.class_number, line.floor, self.quantities[number]) for number, line in numbered
+                          if line.ceiling)
             self.found[name] = Sharing(name, element.kind, element.capacity, self.usual.get(name, element.capacity),
                                        self.loads[name], tuple(class_shares(lines)), lines)
         return self.found[name]
