@@ -5,7 +5,7 @@ from dataclasses import dataclass
 
 from certificate import CLASSES, Question, Words
 
-from .reasons import MOST_NAMED, Payment, Reasons
+from .reasons import MOST_NAMED, Payment, Reason, Reasons
 from .sharing import Sharing, Sharings
 
 NOMINATION = "nomination"  # nothing reduces what was nominated
@@ -88,9 +88,9 @@ class Causes:
         kind = HIGHER_CLASS if first < line.class_number else CAPACITY
         return ElementCause(kind, line.ceiling, scheduled, self.sharings.of(element.name), first)
 
-    def of_line(self, number: int) -> Iterator[Cause]:
+    def of_line(self, number: int, reason: Reason | None) -> Iterator[Cause]:
         """What keeps a line from more; an element whose price is of lower classes alone wouldn't."""
-        reason, own = self.reasons.reason(number), self.question.lines[number - 1].class_number
+        own = self.question.lines[number - 1].class_number
         for payment in reason.paid if reason else ():
             if deciding_class(payment.amount) <= own:
                 yield self.of_payment(number, payment)

@@ -36,13 +36,16 @@ def answer_part(answer: EndAnswer) -> str:
     return f"{answer.operator or 'nobody'} {told} at the {answer.end}"
 
 
-def confirmed_words(line: RoundLine, cycle: int) -> str:
-    """By whom a line was confirmed, in words."""
-    answers = ", ".join(map(answer_part, line.answers))
+def by_words(line: RoundLine, cycle: int) -> str:
+    """By whom a line was confirmed, in a few words."""
     kept = f"{'carried over' if cycle == 1 else 'scheduled before'}: {grouped(line.former)}"
-    why = {NOMINATION: "all of it", CONFIRMATION: "by an operator", SILENCE: f"by silence, {kept}",
-           ELAPSED: "what has flowed already"}.get(line.confirmed_by, "by whom can't be told")
-    return f"{why}; {answers}"
+    return {NOMINATION: "all of it", CONFIRMATION: "by an operator", SILENCE: f"by silence, {kept}",
+            ELAPSED: "what has flowed already"}.get(line.confirmed_by, "by whom can't be told")
+
+
+def confirmed_words(line: RoundLine, cycle: int) -> str:
+    """The same with what both ends answered."""
+    return f"{by_words(line, cycle)}; {', '.join(map(answer_part, line.answers))}"
 
 
 def freed_words(line: RoundLine, excess: int) -> str:

@@ -87,9 +87,9 @@ def scheduled_lines(asked: Question, answer: Answer, sharings: Sharings, bumped:
     reasons = Reasons(asked, answer, sharings.loads)
     causes = Causes(asked, reasons, sharings)
     for number, (line, quantity) in enumerate(zip(asked.lines, answer.quantities, strict=True), 1):
-        more = bumped.get(number, 0) if bumped else None
+        more, reason = bumped.get(number, 0) if bumped else None, reasons.reason(number)
         yield LineFact(number, *line, scheduled=quantity, short=line.ceiling - quantity, bumped=more,
-                       reason=reasons.reason(number), causes=tuple(causes.of_line(number)))
+                       reason=reason, causes=tuple(causes.of_line(number, reason)))
 
 
 def cut_lines(asked: Question, crossing: Crossing) -> Iterator[LineFact]:

@@ -7,6 +7,11 @@ from importlib import resources
 from .page_tables import Cell, Column, Sentences, Table
 from .words import grouped
 
+# So many rows are shown at a time where there is script, as page.js has it.
+PAGE = 100
+# Without script all are.
+ALL_ROWS = ("<noscript><style>.data tr.off { display: table-row; }"
+            " @media (max-width: 720px) { .data tr.off { display: block; } }</style></noscript>")
 POLICY = "default-src 'none'; style-src 'unsafe-inline'; script-src 'unsafe-inline'; base-uri 'none'; form-action 'none'"
 
 
@@ -49,10 +54,10 @@ def has_mark(row: list[Cell], column: int, equals: int | None) -> bool:
     return value == equals if equals is not None else bool(value)
 
 
-def row_html(table: Table, row: list[Cell]) -> str:
-    """A row with the classes of its marks, by which the script filters."""
+def row_html(table: Table, row: list[Cell], is_off: bool) -> str:
+    """A row with the classes of its marks, by which the script filters; and whether it is behind the first page."""
     marks = [(k, mark) for k, mark in enumerate(table["marks"]) if has_mark(row, mark["column"], mark.get("equals"))]
-    kinds = " ".join(f"m{k} {mark['kind']}".strip() for k, mark in marks)
+    kinds = " ".join([f"m{k} {mark['kind']}".strip() for k, mark in marks] + ["off"] * is_off)
     cells = []
     for at, (column, value) in enumerate(zip(table["columns"], row, strict=True)):
         marked = "".join(f" mark-{mark['kind']}" for _, mark in marks if mark["column"] == at and mark["kind"])
@@ -80,7 +85,7 @@ def table_html(table: Table) -> str:
         down = " data-down" if column["down"] else ""
         heads.append(f'<th scope="col" class="{column_class(column)}"{down}>{escape(column["title"])}</th>')
     marks = escape("|".join(mark["name"] for mark in table["marks"]))
-    body = "".join(row_html(table, row) for row in table["rows"])
+    body = "".join(row_html(table, row, at >= PAGE) for at, row in enumerate(table["rows"]))
     return (f'{card_style(table)}<div class="table" id="{table["id"]}" data-choice="{table["choice"]}" data-marks="{marks}">'
             f'<div class="scroll"><table class="data"><thead><tr>{"".join(heads)}</tr></thead><tbody>{body}</tbody></table></div>'
             "</div>")
@@ -92,5 +97,5 @@ def document(title: str, under: str, body: str, style: str = "") -> str:
     return (f'<!DOCTYPE html>\n<html lang="en"><head><meta charset="utf-8"><title>{escape(title)}</title>'
             f'<meta http-equiv="Content-Security-Policy" content="{POLICY}">'
             '<meta name="viewport" content="width=device-width, initial-scale=1"><style>\n'
-            f'{part_of_page("page.css")}{style}</style></head><body><main><h1>{escape(title)}</h1>'
+            f'{part_of_page("page.css")}{style}</style>{ALL_ROWS}</head><body><main><h1>{escape(title)}</h1>'
             f'<p class="under">{escape(under)}</p>{body}</main>{script}</body></html>\n')

@@ -82,11 +82,13 @@ def call_of(call: Call, day: Day) -> Names:
 
 def day_of(day: Day) -> Names:
     names = [time.replace(" ", "_") for time in TIMES]
-    times = {cycle: {name: moment_of(at, day) for name, at in zip(names, moments, strict=False)} for cycle, moments in day.times}
+    times: dict[int, Names] = {}
+    for cycle, moments in day.times:
+        times[cycle] = {name: moment_of(at, day) for name, at in zip(names, moments, strict=False)}
     cycles = []
-    for cycle in day.cycles:
-        answers = [answer_of(made.facts) if made.facts else None for made in cycle.rounds]
-        cycles.append(cycle_of(cycle, day, times.get(cycle.cycle.number, {}), answers))
+    for facts in day.cycles:
+        answers = [answer_of(made.facts) if made.facts else None for made in facts.rounds]
+        cycles.append(cycle_of(facts, day, times.get(facts.cycle.number, {}), answers))
     return {"date": day.date, "book": day.book, "clock": day.clock.name, "cycles": cycles,
             "calls": [call_of(call, day) for call in day.calls]}
 

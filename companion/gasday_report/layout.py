@@ -149,21 +149,25 @@ def apart(places: Mapping[str, Point]) -> dict[str, Point]:
 def straight(places: Mapping[str, Point], size: Mapping[str, Node], edge: Edge,
              near: Mapping[str, Sequence[tuple[str, int]]]) -> Curve:
     """A curve from a node's right side to the next one's left side; where they stand in one layer straight down, or round what
-    stands between them. The label stands towards the node with fewer edges, where the curve is by itself."""
+    stands between them. The label stands towards the end with fewer curves, where the curve is by itself, on the side that
+    the curve turns away from."""
     (x1, y1), (x2, y2) = places[edge.tail], places[edge.head]
+    head = HEAD if size[edge.tail].beside is not None else 0
     if x1 == x2 and abs(y2 - y1) > 1.5 * SLOT:
-        x1, x2 = x1 - size[edge.tail].width / 2, x2 - size[edge.head].width / 2 - HEAD
+        x1, x2 = x1 - size[edge.tail].width / 2, x2 - size[edge.head].width / 2 - head
         left = min(x1, x2) - 30
         return Curve([(x1, y1), (left, y1), (left, y2), (x2, y2)], None)
     if x1 == x2:
         down = 1 if y2 > y1 else -1
-        y1, y2 = y1 + down * size[edge.tail].height / 2, y2 - down * size[edge.head].height / 2
+        y1, y2 = y1 + down * size[edge.tail].height / 2, y2 - down * (size[edge.head].height / 2 + head)
     else:
         x1, x2 = x1 + size[edge.tail].width / 2, x2 - size[edge.head].width / 2 - HEAD
     middle = (x1 + x2) / 2
     points = [(x1, y1), (middle, y1), (middle, y2), (x2, y2)]
-    share = 0.3 if len(near[edge.tail]) <= len(near[edge.head]) else 0.7
-    label = x1 + share * (x2 - x1), (y1 if share < 0.5 else y2) - LETTERS
+    leaving, entering = sum(step > 0 for _, step in near[edge.tail]), sum(step < 0 for _, step in near[edge.head])
+    share = 0.3 if leaving <= entering else 0.7
+    start, other = (y1, y2) if share < 0.5 else (y2, y1)
+    label = x1 + share * (x2 - x1), start - LETTERS if other >= start else start + LETTERS
     return Curve(points, label if edge.label else None)
 
 

@@ -7,7 +7,7 @@ from .causes import Cause, ElementCause, PoolCause
 from .day import Day
 from .facts import ElementFact, Facts
 from .html_parts import document, section, table_html
-from .page_tables import Column, Table, column, numbers
+from .page_tables import Cell, Column, Table, column, numbers
 from .report import Report
 from .rounds import RoundFacts
 from .text_format import set_in_words
@@ -45,8 +45,9 @@ def element_table(facts: Facts, limited: dict[str, set[int]]) -> Table:
     def order(element: ElementFact) -> bool:
         return element.name not in limited
     elements = sorted((element for element in facts.elements if element.kind != "pool"), key=order)
-    rows = [[element.name, element.kind, element.start, element.end, element.capacity, element.usual, element.load,
-             element.room, limit_words(limited.get(element.name, set()))] for element in elements]
+    rows: list[list[Cell]] = [
+        [element.name, element.kind, element.start, element.end, element.capacity, element.usual, element.load, element.room,
+         limit_words(limited.get(element.name, set()))] for element in elements]
     return {"id": "constraints", "columns": element_columns(), "rows": rows, "choice": 1,
             "marks": [{"name": "limiting", "column": 8, "kind": "full"}]}
 

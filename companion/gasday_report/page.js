@@ -92,6 +92,7 @@ class Table {
   sortBy(at) {
     this.down = this.order === at ? !this.down : 'down' in this.heads[at].dataset;
     this.order = at;
+    this.sort();
     this.restart();
   }
 
@@ -125,21 +126,26 @@ class Table {
     return this.rows.filter(row => this.isChosen(row, words));
   }
 
-  sorted(rows) {
-    if (this.order === null) return rows;
+  sort() {
     const at = this.order, sign = this.down ? -1 : 1;
-    const text = new Map(rows.map(row => [row, row.cells[at].textContent]));
-    return [...rows].sort((a, b) => sign * this.compare(text.get(a), text.get(b), at));
+    const text = new Map(this.rows.map(row => [row, row.cells[at].textContent]));
+    this.rows.sort((a, b) => sign * this.compare(text.get(a), text.get(b), at));
+    this.body.append(...this.rows);
   }
 
   show() {
-    const rows = this.sorted(this.chosen()), pages = Math.max(1, Math.ceil(rows.length / PAGE));
+    const chosen = new Set(this.chosen()), count = chosen.size, pages = Math.max(1, Math.ceil(count / PAGE));
     this.page = Math.min(Math.max(this.page, 0), pages - 1);
-    const first = this.page * PAGE, last = Math.min(first + PAGE, rows.length);
+    const first = this.page * PAGE, last = Math.min(first + PAGE, count);
     // Rows of other pages stay in the document: they are printed.
-    rows.forEach((row, at) => row.classList.toggle('off', at < first || at >= last));
-    this.body.replaceChildren(...rows);
-    if (this.tools) this.tell(rows.length, first, last, pages);
+    let at = 0;
+    for (const row of this.rows) {
+      const isOut = !chosen.has(row), isOff = !isOut && (at < first || at >= last);
+      if (!isOut) at += 1;
+      if (row.classList.contains('out') !== isOut) row.classList.toggle('out');
+      if (row.classList.contains('off') !== isOff) row.classList.toggle('off');
+    }
+    if (this.tools) this.tell(count, first, last, pages);
     this.heads.forEach((cell, at) => {
       cell.firstChild.textContent = this.titles[at] + (at === this.order ? (this.down ? ' \u25be' : ' \u25b4') : '');
       cell.setAttribute('aria-sort', at !== this.order ? 'none' : this.down ? 'descending' : 'ascending');
@@ -182,6 +188,7 @@ class Picture {
   // The frame has the picture's own form, within what a window can show.
   fit() {
     const width = this.frame.clientWidth, most = Math.max(220, 0.72 * window.innerHeight);
+    if (!width) return;
     const scale = Math.min(width / this.drawn.width, 1.3, most / this.drawn.height);
     const height = Math.max(Math.round(this.drawn.height * scale), Math.min(220, Math.round(this.drawn.height * 1.3)));
     this.svg.style.width = width + 'px';

@@ -6,12 +6,12 @@ from typing import NotRequired, TypedDict
 
 from .cause_words import arithmetic_words, line_number, words_of
 from .day import Day
-from .day_text import confirmed_words, freed_words, labels_of, reasons_of
+from .day_text import answer_part, by_words, labels_of, reasons_of
 from .facts import ElementFact, Facts, LineFact
 from .reasons import Reason
 from .rounds import RoundFacts, RoundLine
 from .sharing import Sharing
-from .words import price_in_words
+from .words import grouped, price_in_words
 
 MOST_DETAILS, MOST_SHARES = 12, 5_000
 ARITHMETIC = "show the arithmetic"
@@ -125,20 +125,25 @@ def cut_element_table(facts: Facts, name: str = "elements") -> Table:
     return {"id": name, "columns": columns, "rows": rows, "marks": marks, "choice": 1}
 
 
-ROUND_ENDS = [column("line", number=True), column("shipper", name=True), column("contract", name=True),
-              column("package", name=True), column("from", name=True), column("to", name=True), column("class", number=True)]
+ROUND_COLUMNS = [column("line", number=True), column("shipper", name=True), column("contract", name=True),
+                 column("package", name=True), column("from", name=True), column("to", name=True), column("class", number=True),
+                 *numbers("nominated", "confirmed"), column("confirmed by", words=True), *numbers("floor")]
+
+
+def by_cell(line: RoundLine, cycle: int) -> Sentences:
+    """By whom a line was confirmed; what both ends answered is shown when the reader asks for it."""
+    return Sentences((by_words(line, cycle),), tuple(map(answer_part, line.answers)), "show the answers")
 
 
 def round_line_cells(line: RoundLine, cycle: int) -> list[Cell]:
     at = line.line
     return [at.number, at.shipper, at.contract, at.package, at.origin, at.destination, line.class_number, line.nominated,
-            line.confirmed, confirmed_words(line, cycle), line.floor]
+            line.confirmed, by_cell(line, cycle), line.floor]
 
 
 def round_line_table(made: RoundFacts, name: str) -> Table:
     """The lines of a round that was published, or is frozen."""
-    columns = [*ROUND_ENDS, *numbers("nominated", "confirmed"), column("confirmed by"), *numbers("floor", "scheduled", "less"),
-               *numbers("bumped"), column("why", words=True)]
+    columns = [*ROUND_COLUMNS, *numbers("scheduled", "less", "bumped"), column("why", words=True)]
     label, rows, cycle = labels_of(made.lines), [], made.round.cycle
     for line in made.lines:
         less = None if line.scheduled is None else max(line.nominated - line.scheduled, 0)
@@ -150,15 +155,15 @@ def round_line_table(made: RoundFacts, name: str) -> Table:
 
 def round_cut_table(made: RoundFacts, excess: int, name: str) -> Table:
     """The lines of a declared round: which count in the cut, and what a waiver of each would free."""
-    columns = [*ROUND_ENDS, *numbers("nominated", "confirmed"), column("confirmed by"), *numbers("floor"), column("crosses"),
-               *numbers("counts", "waiver frees"), column("which means", words=True)]
+    columns = [*ROUND_COLUMNS, column("crosses"), *numbers("counts", "waiver frees"), column("and then")]
     ways = {"out": "leaves the set", "in": "comes back"}
     rows: list[list[Cell]] = []
     for line in made.lines:
-        means = freed_words(line, excess)
+        left = excess - line.freed if line.freed is not None else None
+        means = "" if left is None else "this set is no cut" if left <= 0 else f"{grouped(left)} too many"
         rows.append([*round_line_cells(line, made.round.cycle), ways.get(line.cut_way, ""), line.cut_quantity, line.freed,
-                     Sentences((means,) if means else ())])
-    return {"id": name, "columns": columns, "rows": rows, "marks": [mark("crossing", 11, "crosses")], "choice": 1}
+                     means])
+    return {"id": name, "columns": columns, "rows": rows, "marks": [mark("that count", 12, "crosses")], "choice": 1}
 
 
 def shown_sharings(facts: Facts) -> list[Sharing]:

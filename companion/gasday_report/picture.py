@@ -19,7 +19,7 @@ PART_PLACES, PART_ENDS = 30, 40
 WITH_TROUBLE = "with what is full or has a price, and what carries most"
 WIDEST, NARROWEST = 12, 1.5
 LETTER, HEIGHT = 6.6, 26
-BESIDE = 12  # a label's middle stands so far from its line's edge at least
+BESIDE = 17  # a label's middle stands so far from its line's edge at least
 
 
 class Part(NamedTuple):
@@ -122,8 +122,8 @@ def part_of(facts: Facts) -> Part:
     if len(places) < len(everywhere) or len(kept) < len(all_ends):
         kind = "that matters most to the cut" if facts.is_cut else WITH_TROUBLE if any(map(is_trouble, facts.elements)) else \
             "that carries most"
-        note = (f"The pipeline is too large for a picture: this is the part {kind}, {len(places)} of {len(everywhere)}"
-                f" places with {len(kept)} of {len(all_ends)} points and pools. The tables have all of them.")
+        note = (f"The pipeline is too large for a picture: this is the part {kind}, {len(places)} of {len(everywhere):,}"
+                f" places with {len(kept)} of {len(all_ends):,} points and pools. The tables have all of them.")
     return Part(places, segments, kept, note)
 
 

@@ -138,7 +138,9 @@ class Rounds:
             answer = Input("answer", f"what was declared in round {at.number}", written(at.inside))
             made.facts = self.check(at, written(made.question), answer)
         freed = self.freed(made) if made.facts and made.facts.is_cut else {}
-        facts = made.facts.lines if made.facts else [None] * len(at.bounds)
+        facts: list[LineFact | None] = [None] * len(at.bounds)
+        if made.facts:
+            facts = [*made.facts.lines]
         made.lines = [self.line(at, number, fact, freed.get(number)) for number, fact in enumerate(facts, 1)]
         return made
 
