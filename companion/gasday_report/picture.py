@@ -260,7 +260,7 @@ def graph_of(part: Part) -> tuple[list[Node], list[Edge]]:
 def svg_of(layout: Layout, drawn: Sequence[str]) -> str:
     """The picture of what was drawn, of its own size at most."""
     return (f'<svg class="pipeline" viewBox="-8 -8 {layout.width + 16:.0f} {layout.height + 16:.0f}"'
-            f' style="max-width:{1.3 * layout.width:.0f}px" role="group" aria-label="The pipeline">{"".join(drawn)}</svg>')
+            f' style="max-width:{1.3 * (layout.width + 16):.0f}px" role="group" aria-label="The pipeline">{"".join(drawn)}</svg>')
 
 
 def picture_of(facts: Facts) -> tuple[str, str]:

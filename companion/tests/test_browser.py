@@ -18,9 +18,9 @@ ANSWER = "".join(f"sched,{k},{1000 + k},,,,,\n" for k in range(1, LINES + 1))
 SEEN = "[...document.querySelectorAll('#{} tbody tr')].filter(row => row.getBoundingClientRect().height > 0).length"
 LINE_ROWS, ELEMENT_ROWS = SEEN.format("lines"), SEEN.format("elements")
 TOO_WIDE = "document.documentElement.scrollWidth - window.innerWidth"
-# How much of a picture's parts stands outside of its frame, in pixels.
+# How much of a picture's parts stands outside of what is seen of it, in pixels; below 0 it has a margin.
 CUT_OFF = """Math.max(...[...document.querySelectorAll('.picture')].map(frame => {
-  const outer = frame.getBoundingClientRect();
+  const outer = frame.querySelector('svg').getBoundingClientRect();
   return Math.max(...[...frame.querySelectorAll('svg > g')].map(part => { const inner = part.getBoundingClientRect();
     return Math.max(outer.left - inner.left, inner.right - outer.right, outer.top - inner.top, inner.bottom - outer.bottom); }));
 }))"""
@@ -83,8 +83,10 @@ class Pages(DayTest):
 
     def test_a_picture_fits_and_is_zoomed_and_dragged(self) -> None:
         for size in (DESK, PHONE):
+            self.page(size)
+            self.assertLess(self.value(CUT_OFF), -1, size)
             self.page(size, question=winter_day()[0], answer=winter_day()[1])
-            self.assertLess(self.value(CUT_OFF), 1, size)
+            self.assertLess(self.value(CUT_OFF), -1, size)
         self.page(question=winter_day()[0], answer=winter_day()[1])
         box = "document.querySelector('.picture svg').getAttribute('viewBox').split(' ').map(Number)"
         first = self.value(box)
@@ -152,13 +154,13 @@ class Pages(DayTest):
         self.browser.ask("Emulation.setScriptExecutionDisabled", value=False)
         self.assertEqual(self.value(LINE_ROWS), LINES)
         self.assertEqual(self.value("document.querySelectorAll('.tools, .zoom').length"), 0)
-        self.assertLess(self.value(CUT_OFF), 1)
+        self.assertLess(self.value(CUT_OFF), -1)
 
     def test_a_gas_day(self) -> None:
         self.day_page(DESK)
         self.assertEqual(self.value("document.querySelectorAll('.picture').length"), 2)
         self.assertEqual(self.value(SEEN.format("lines-2-2")), 2)
-        self.assertLess(self.value(CUT_OFF), 1)
+        self.assertLess(self.value(CUT_OFF), -1)
         arithmetic = "document.querySelector('#lines-2-2 details li').checkVisibility()"
         self.assertFalse(self.value(arithmetic))
         self.value("document.querySelector('#lines-2-2 summary').click()")
