@@ -77,6 +77,15 @@ def archive_verdict(held: Sequence[Posting], told: Sequence[Posting]) -> Verdict
     return Verdict(by, True, f"the archive has the {counted(len(kept), 'posting')} that the gas day publishes, {same}")
 
 
+def posting_verdict(posting: Posting) -> Verdict:
+    """Whether the body of a posting is of the book, cycle and round that the archive keeps it under."""
+    by, wanted = "the archive's posting", (posting.book, posting.cycle, posting.round)
+    head = head_of(rows_in(posting.body, "the posting"), "the posting")
+    if head != wanted:
+        return Verdict(by, False, f"it is kept as {head_words(wanted)}, and its head is {head_words(head)}")
+    return Verdict(by, True, f"it is kept as {head_words(wanted)}, and has that head")
+
+
 def posting_parts(posting: Posting) -> tuple[Input, Input]:
     """The question and the answer that a posting holds."""
     name = f"the posting of {posting.book}, cycle {posting.cycle}"

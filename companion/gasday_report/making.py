@@ -5,7 +5,7 @@ import argparse
 from certificate import Answer, Question
 
 from .archives import Posting, postings_of
-from .belonging import answer_verdict, archive_verdict, day_head_verdict, posting_parts
+from .belonging import answer_verdict, archive_verdict, day_head_verdict, posting_parts, posting_verdict
 from .day import DayRun, day_of, day_row, day_verdict, run_day
 from .facts import facts_of
 from .moments import Clock
@@ -25,6 +25,7 @@ def posting_inputs(report: Report, arguments: argparse.Namespace) -> tuple[Input
     found = [posting for posting in postings_of(archive, book) if str(posting.cycle) == cycle]
     if not found:
         raise Fault(f"archive: {arguments.archive} has no posting of the book {book} and cycle {cycle}")
+    report.verdicts.append(posting_verdict(found[0]))
     question, answer = posting_parts(found[0])
     report.inputs += [archive, Input("posting", answer.path, answer.data)]
     return question, answer
@@ -49,7 +50,8 @@ def add_answer(report: Report, arguments: argparse.Namespace) -> tuple[Input, Qu
         report.notes.append("What the answer says of bumped lines is shown as it stands: neither check looks at it.")
     verdicts = program_verdicts(report.program, question, answer) if report.program else []
     own, asked, given = own_verdict(question, answer)
-    report.verdicts += [*verdicts, own, *answer_verdict(question, answer, asked)]
+    together = [] if arguments.posting else answer_verdict(question, answer, asked)
+    report.verdicts += [*verdicts, own, *together]
     if report.passed():
         report.facts = facts_of(question, answer, asked, given)
     return question, asked, given

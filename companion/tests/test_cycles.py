@@ -81,6 +81,11 @@ class Told(DayTest):
         out, _, status = self.run_command("--archive", archive, "--posting", "DEMO", "2", "--gasday", self.gasday())
         self.assertEqual(status, 0)
         self.assertIn("Line 1: R1 to D1, class 4: floor 0, confirmed 70, scheduled 50, short by 20, bumped by 20\n", out)
+        self.assertIn("PASS  the archive's posting: it is kept as book DEMO, cycle 2 (Evening), round 2, and has that head\n",
+                      out)
+        other = self.archive("other.db", TIMELY, EVENING.replace("DEMO,2,2", "DEMO,2,4"))
+        out, _, status = self.run_command("--archive", other, "--posting", "DEMO", "2", "--gasday", self.gasday())
+        self.assertEqual((status, "Line 1" in out), (1, False))
         for words in (("DEMO", "3"), ("OTHER", "2")):
             self.assertEqual(self.run_command("--archive", archive, "--posting", *words, "--gasday", self.gasday())[2], 2)
 
