@@ -37,14 +37,12 @@ def kept_words(cycle: int) -> str:
 def answer_cause_words(cause: AnswerCause, cycle: int) -> str:
     """That less than was nominated came through the confirmation, or that a silent end kept something else."""
     answers = answer_words(cause.answers)
+    step = f"{'reduced' if cause.after < cause.before else 'raised'} from {grouped(cause.before)} to {grouped(cause.after)}"
     if cause.kind == ELAPSED:
-        return (f"{grouped(cause.before)} nominated and less than {grouped(cause.after)} confirmed ({answers}), but"
-                f" {grouped(cause.after)} has flowed already")
+        return f"{step}, which has flowed already; {answers}"
     if cause.kind != SILENCE:
-        return f"reduced from {grouped(cause.before)} to {grouped(cause.after)} by confirmation: {answers}"
-    verb = "reduced" if cause.after < cause.before else "raised"
-    return (f"{verb} from {grouped(cause.before)} to {grouped(cause.after)} by silence: {answers}, so {kept_words(cycle)}"
-            f" stands, {grouped(cause.after)}")
+        return f"{step} by confirmation: {answers}"
+    return f"{step} by silence: {answers}, so {kept_words(cycle)} stands, {grouped(cause.after)}"
 
 
 def sharer_words(share: ClassShare, label: Label) -> str:

@@ -15,6 +15,10 @@ from day_helpers import EVENING, FIVE_CYCLES, TIMELY, DayTest
 from helpers import TWO_LINES, TWO_LINES_ANSWER
 from test_day import EVENTS, REPLIES
 
+from gasday_report.cause_words import cause_words, line_number
+from gasday_report.causes import AnswerCause, EndAnswer
+from gasday_report.confirming import confirmed_by
+from gasday_report.course import Bound
 from gasday_report.program import BUILT
 
 PROGRAM = Path(os.environ.get("GASDAY", BUILT))
@@ -155,6 +159,32 @@ class Told(DayTest):
         shares = list(csv.DictReader(io.StringIO(self.day("--format", "csv", "--table", "cycle-sharing")[0])))
         self.assertEqual([(row["element"], row["capacity"], row["line"], row["class"], row["scheduled"]) for row in shares],
                          [("S1", "100", "1", "4", "50"), ("S1", "100", "2", "1", "50")])
+
+
+class ByWhom(unittest.TestCase):
+    """Which of the known quantities a confirmed one is; where it is none of them that isn't told."""
+
+    def by(self, cycle: int, nominated: int, former: int, floor: int, ceiling: int, *answers: int | None) -> str:
+        ends = [EndAnswer(end, "OP", answer) for end, answer in zip(("origin", "destination"), answers, strict=True)]
+        return confirmed_by(cycle, nominated, former, Bound(4, floor, ceiling), ends)
+
+    def test_timely(self) -> None:
+        """The least of the nomination, the answers, and where an end is silent what was carried over."""
+        self.assertEqual(self.by(1, 70, 0, 0, 70, 70, 80), "nomination")
+        self.assertEqual(self.by(1, 70, 0, 0, 60, 70, 60), "confirmation")
+        self.assertEqual(self.by(1, 70, 50, 0, 50, 70, None), "silence")
+        self.assertEqual(self.by(1, 70, 50, 0, 40, 40, None), "confirmation")
+        self.assertEqual(self.by(1, 70, 50, 0, 45, 40, None), "untold")
+
+    def test_later(self) -> None:
+        """By silence what was scheduled before; else no less than has flowed, which is the floor then."""
+        self.assertEqual(self.by(3, 70, 50, 10, 50, None, 20), "silence")
+        self.assertEqual(self.by(3, 70, 50, 10, 20, None, 20), "untold")
+        self.assertEqual(self.by(3, 4, 50, 6, 6, 100, 100), "elapsed")
+        self.assertEqual(self.by(3, 4, 50, 5, 6, 100, 100), "untold")
+        cause = AnswerCause("elapsed", 4, 6, (EndAnswer("origin", "OPR", 100), EndAnswer("destination", "OPD", 100)))
+        self.assertEqual(cause_words(cause, 3, 4, line_number), "raised from 4 to 6, which has flowed already; OPR at the origin"
+                         " confirmed 100 and OPD at the destination confirmed 100")
 
 
 @unittest.skipUnless(os.access(PROGRAM, os.X_OK), "no program is built")
