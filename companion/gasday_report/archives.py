@@ -4,7 +4,8 @@ import hashlib
 import os
 import sqlite3
 import tempfile
-from contextlib import closing
+from collections.abc import Iterator
+from contextlib import closing, contextmanager
 from dataclasses import dataclass
 
 from .texts import Fault, Input
@@ -33,6 +34,17 @@ def postings_in(path: str, book: str) -> list[Posting]:
         return [Posting(book, cycle, number, body) for cycle, number, body in rows]
 
 
+@contextmanager
+def scratch_folder() -> Iterator[str]:
+    """A folder that is there for as long as it is needed; that there is no room for it is told."""
+    try:
+        with tempfile.TemporaryDirectory(prefix="gasday-report-") as folder:
+            yield folder
+    except OSError as error:
+        raise Fault(f"{error.filename or tempfile.gettempdir()} can't be written: {error.strerror}; the report needs room for a"
+                    " copy of the archive there (TMPDIR names another folder)") from None
+
+
 def log_beside(path: str) -> bytes:
     try:
         with open(path + LOG, "rb") as file:
@@ -46,7 +58,7 @@ def log_beside(path: str) -> bytes:
 def postings_of(archive: Input, book: str) -> list[Posting]:
     """The postings of a book in an archive. A copy is opened, so that nothing is written beside it."""
     log = log_beside(archive.path)
-    with tempfile.TemporaryDirectory(prefix="gasday-report-") as folder:
+    with scratch_folder() as folder:
         path = os.path.join(folder, "archive.db")
         for name, data in ((path, archive.data), (path + LOG, log)):
             if data:

@@ -1,12 +1,11 @@
 """A gas day's calls, and what each was told; and its cycles."""
 
 import os
-import tempfile
 from collections.abc import Iterator, Sequence
 from dataclasses import dataclass
 from typing import NamedTuple
 
-from .archives import Posting, postings_in
+from .archives import Posting, postings_in, scratch_folder
 from .course import ENDS, Course, Taken
 from .moments import Clock
 from .program import Program
@@ -188,7 +187,7 @@ def times_of(program: Program, row: Row) -> Iterator[tuple[int, list[int]]]:
 def run_day(program: Program, events: Input) -> DayRun:
     """Runs the program on a day's text. It keeps what is published in an archive of its own."""
     book = day_row(events)[3]
-    with tempfile.TemporaryDirectory(prefix="gasday-report-") as folder:
+    with scratch_folder() as folder:
         path = os.path.join(folder, "postings.db")
         told = rows_in(program.call(["day", "--archive", path], events.data)[0], "gasday day")
         for row in of_kinds(told, ("fault",)):

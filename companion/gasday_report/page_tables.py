@@ -163,7 +163,7 @@ def round_cut_table(made: RoundFacts, excess: int, name: str) -> Table:
         means = "" if left is None else "this set is no cut" if left <= 0 else f"{grouped(left)} too many"
         rows.append([*round_line_cells(line, made.round.cycle), ways.get(line.cut_way, ""), line.cut_quantity, line.freed,
                      means])
-    return {"id": name, "columns": columns, "rows": rows, "marks": [mark("that count", 12, "crosses")], "choice": 1}
+    return {"id": name, "columns": columns, "rows": rows, "marks": [mark("those that count", 12, "crosses")], "choice": 1}
 
 
 def shown_sharings(facts: Facts) -> list[Sharing]:
