@@ -4,10 +4,13 @@ from html import escape
 
 from certificate import Sums
 
+from .day_text import constraint_words
 from .facts import Facts
+from .html_parts import notes_html, table_html
+from .page_tables import Table, shown_sharings
 from .picture import picture_of
 from .text_format import set_in_words
-from .words import CUT_NOTE, grouped
+from .words import CUT_NOTE, counted, grouped
 
 LEGEND = """<div class="legend"><span><i style="background:var(--idle)"></i>carries nothing</span>
 <span><i style="background:var(--low)"></i>below half</span><span><i style="background:var(--middle)"></i>half to 90 %</span>
@@ -46,6 +49,15 @@ def picture_html(facts: Facts, table: str) -> str:
     warning = f'<p class="warn">{escape(note)}</p>' if note else ""
     return (f'{warning}<div class="picture" data-table="{table}">{svg}</div>{CUT_LEGEND if facts.is_cut else LEGEND}'
             f'<p class="note">{PICTURE_NOTE}</p>')
+
+
+def sharing_html(facts: Facts, table: Table) -> str:
+    """Who shares what is full: each element with its classes, and then the lines."""
+    if not facts.sharings:
+        return ""
+    left_out = len(facts.sharings) - len(shown_sharings(facts))
+    more = f'<p class="warn">{counted(left_out, "more element")}: the formats json and csv have all.</p>' if left_out else ""
+    return notes_html(constraint_words(facts)) + table_html(table) + more
 
 
 def sum_html(sums: Sums) -> str:

@@ -32,6 +32,8 @@ def answer_verdict(question: Input, answer: Input, asked: Question) -> list[Verd
     own = head_of(question.rows(), "question")
     if head != own:
         return [Verdict(TOGETHER, False, f"the answer's head is {head_words(head)}; the question's is {head_words(own)}")]
+    if not of_kinds(rows, ("segment",)):
+        return [Verdict(TOGETHER, True, f"both are of {head_words(head)}")]
     if not same_question(read_question(of_kinds(rows, QUESTION_KINDS), "answer"), asked):
         return [Verdict(TOGETHER, False, "they have the same head, and other elements, capacities or lines")]
     return [Verdict(TOGETHER, True, f"both are of {head_words(head)}, with the same elements, capacities and lines")]

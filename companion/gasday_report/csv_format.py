@@ -10,7 +10,7 @@ from .cause_words import Label, line_number, words_of
 from .causes import AnswerCause, Cause, ElementCause, PoolCause
 from .day import Call, Day
 from .day_text import labels_of, reasons_of
-from .facts import ElementFact, LineFact
+from .facts import ElementFact, Facts, LineFact
 from .report import Report
 from .rounds import RoundFacts, RoundLine
 
@@ -27,7 +27,7 @@ ROUND_LINE_COLUMNS = (*ROUND_COLUMNS, "line", "shipper", "contract", "package", 
                       "origin_operator", "origin_confirmed", "destination_operator", "destination_confirmed", "confirmed",
                       "confirmed_by", "former", "waived", "floor", "scheduled", "bumped", "reason_kinds", "reason_elements",
                       "reason", "cut_way", "cut_quantity", "freed_by_waiver")
-SHARING_COLUMNS = (*ROUND_COLUMNS, "element", "kind", "capacity", "usual_capacity", "load", "line", "class", "floor", "scheduled")
+SHARING_COLUMNS = ("element", "kind", "capacity", "usual_capacity", "load", "line", "class", "floor", "scheduled")
 
 
 def blank(value: Cell) -> str | int:
@@ -82,8 +82,8 @@ def rounds_of(day: Day | None) -> Iterator[tuple[list[Cell], RoundFacts]]:
             yield [made.round.cycle, made.round.number, made.round.outcome], made
 
 
-def sharing_rows(made: RoundFacts) -> Iterator[list[Cell]]:
-    for sharing in made.facts.sharings if made.facts else ():
+def sharing_rows(facts: Facts | None) -> Iterator[list[Cell]]:
+    for sharing in facts.sharings if facts else ():
         head: list[Cell] = [sharing.element, sharing.kind, sharing.capacity, sharing.usual, sharing.load]
         for share in sharing.lines:
             yield [*head, share.line, share.class_number, share.floor, share.scheduled]
@@ -98,7 +98,7 @@ def day_table(day: Day | None, table: str) -> tuple[Sequence[str], Iterable[list
     if table == "cycle-elements":
         return (*ROUND_COLUMNS, *ELEMENT_COLUMNS), ([*at, *element_row(element)] for at, made in rounds
                                                     for element in (made.facts.elements if made.facts else ()))
-    return SHARING_COLUMNS, ([*at, *row] for at, made in rounds for row in sharing_rows(made))
+    return (*ROUND_COLUMNS, *SHARING_COLUMNS), ([*at, *row] for at, made in rounds for row in sharing_rows(made.facts))
 
 
 def table_of(report: Report, table: str) -> tuple[Sequence[str], Iterable[list[Cell]]]:
@@ -108,6 +108,8 @@ def table_of(report: Report, table: str) -> tuple[Sequence[str], Iterable[list[C
         return CALL_COLUMNS, map(call_row, report.day.calls if report.day else ())
     if table.startswith("cycle-"):
         return day_table(report.day, table)
+    if table == "sharing":
+        return SHARING_COLUMNS, sharing_rows(facts)
     if table == "elements":
         return ELEMENT_COLUMNS, map(element_row, facts.elements if facts else ())
     return LINE_COLUMNS, (line_row(line, facts.cycle) for line in facts.lines) if facts else ()

@@ -3,11 +3,11 @@
 
 from html import escape
 
-from .answer_parts import counts_html, picture_html, set_html, sum_html, totals_html
+from .answer_parts import counts_html, picture_html, set_html, sharing_html, sum_html, totals_html
 from .day import TIMES, Day
-from .day_text import WAIVER_NOTE, constraint_words, outcome_words, round_heading
+from .day_text import WAIVER_NOTE, outcome_words, round_heading
 from .facts import Facts
-from .html_parts import notes_html, section, table_html
+from .html_parts import section, table_html
 from .page_tables import (
     Cell,
     Table,
@@ -18,12 +18,11 @@ from .page_tables import (
     numbers,
     round_cut_table,
     round_line_table,
-    sharing_table,
-    shown_sharings,
+    round_sharing,
 )
 from .rounds import CycleFacts, RoundFacts
 from .timeline import timeline_of
-from .words import CYCLES, counted
+from .words import CYCLES
 
 TIMELINE_NOTE = "Green: published or skipped. Red: refused, or no schedule. Blue: all other calls. Hover for what was told."
 
@@ -65,13 +64,10 @@ def cycles_table(day: Day) -> Table:
 
 
 def schedule_parts(made: RoundFacts, facts: Facts, name: str) -> list[str]:
-    left_out = len(facts.sharings) - len(shown_sharings(facts))
-    more = (f'<p class="warn">{counted(left_out, "more element")}: --format csv --table cycle-sharing has all.</p>'
-            if left_out else "")
-    sharing = ["<h4>Who shares what is full</h4>", notes_html(constraint_words(facts)),
-               table_html(sharing_table(made, facts, f"sharing-{name}")), more] if facts.sharings else []
+    sharing = sharing_html(facts, round_sharing(made, facts, f"sharing-{name}"))
+    parts = ["<h4>Who shares what is full</h4>", sharing] if sharing else []
     return [counts_html(facts), totals_html(facts), picture_html(facts, f"elements-{name}"), "<h4>Lines</h4>",
-            table_html(round_line_table(made, f"lines-{name}")), *sharing, "<h4>Segments, points and pools</h4>",
+            table_html(round_line_table(made, f"lines-{name}")), *parts, "<h4>Segments, points and pools</h4>",
             table_html(element_table(facts, f"elements-{name}"))]
 
 

@@ -7,7 +7,7 @@ DESCRIPTION = """Checks an answer of gasday with `gasday check ..` and with cert
 says of each line and each element; of a gas day cycle by cycle, with why a line has less than was nominated. The exit status
 is 0 after a PASS, 1 after a FAIL, and 2 after a fault of usage or of reading. docs/REPORT.md says more."""
 
-ANSWER_TABLES = ("lines", "elements")
+ANSWER_TABLES = ("lines", "elements", "sharing")
 DAY_TABLES = ("calls", "cycle-lines", "cycle-elements", "cycle-sharing")
 
 

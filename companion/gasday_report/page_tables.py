@@ -1,6 +1,6 @@
 """The tables of the HTML page: columns, rows, and which rows are marked."""
 
-from collections.abc import Iterable
+from collections.abc import Callable, Iterable, Sequence
 from dataclasses import dataclass
 from typing import NotRequired, TypedDict
 
@@ -176,18 +176,29 @@ def shown_sharings(facts: Facts) -> list[Sharing]:
     return shown
 
 
-def sharing_table(made: RoundFacts, facts: Facts, name: str) -> Table:
-    """Who shares what is full, element by element and line by line."""
-    columns = [column("element", name=True), *numbers("capacity", "load"), column("class", number=True),
-               column("line", number=True), column("shipper", name=True), column("contract", name=True),
-               *numbers("floor", "scheduled")]
-    rows: list[list[Cell]] = []
-    for sharing in shown_sharings(facts):
-        for share in sharing.lines:
-            at = made.lines[share.line - 1].line
-            rows.append([sharing.element, sharing.capacity, sharing.load, share.class_number, share.line, at.shipper, at.contract,
-                         share.floor, share.scheduled])
-    return {"id": name, "columns": columns, "rows": rows, "marks": [], "choice": 0}
+def sharing_table(facts: Facts, name: str, columns: Sequence[Column], who: Callable[[int], Sequence[Cell]]) -> Table:
+    """Who shares what is full, element by element and line by line, each line as these columns name it."""
+    heads = [column("element", name=True), *numbers("capacity", "load"), column("class", number=True),
+             column("line", number=True), *columns, *numbers("floor", "scheduled")]
+    rows: list[list[Cell]] = [
+        [sharing.element, sharing.capacity, sharing.load, share.class_number, share.line, *who(share.line), share.floor,
+         share.scheduled] for sharing in shown_sharings(facts) for share in sharing.lines]
+    return {"id": name, "columns": heads, "rows": rows, "marks": [], "choice": 0}
+
+
+def answer_sharing(facts: Facts) -> Table:
+    """Of a question by itself, whose lines have ends and no shippers."""
+    def who(line: int) -> Sequence[Cell]:
+        at = facts.lines[line - 1]
+        return at.origin, at.destination
+    return sharing_table(facts, "sharing", ENDS[1:3], who)
+
+
+def round_sharing(made: RoundFacts, facts: Facts, name: str) -> Table:
+    def who(line: int) -> Sequence[Cell]:
+        at = made.lines[line - 1].line
+        return at.shipper, at.contract
+    return sharing_table(facts, name, ROUND_COLUMNS[1:3], who)
 
 
 def call_table(day: Day) -> Table:

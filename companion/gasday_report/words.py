@@ -7,7 +7,8 @@ from certificate import CLASSES, TENTHS, Words
 CYCLES = {1: "Timely", 2: "Evening", 3: "Intraday 1", 4: "Intraday 2", 5: "Intraday 3"}
 
 REASON_NOTES = (
-    "'Nominated' is what the shipper asked for, 'confirmed' what the operators of both ends let pass; a line can't get more.",
+    "'Nominated' is what the shipper asked for, 'confirmed' what the operators of both ends let pass; no line gets more than"
+    " was confirmed.",
     "A reason is one sufficient reason, taken from the prices that the answer has. Other prices may show the same schedule best,"
     " so there may be other reasons.",
 )

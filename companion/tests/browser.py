@@ -22,7 +22,8 @@ FLAGS = ("--headless=new", "--remote-debugging-pipe", "--no-sandbox", "--disable
 class Browser:
     def __init__(self) -> None:
         assert CHROMIUM
-        self.folder = tempfile.TemporaryDirectory(prefix="gasday-browser-")
+        # A process of its own may still write there when Chromium has ended.
+        self.folder = tempfile.TemporaryDirectory(prefix="gasday-browser-", ignore_cleanup_errors=True)
         (reads, self.to), (self.back, writes) = os.pipe(), os.pipe()
         high = [fcntl.fcntl(number, fcntl.F_DUPFD, 10) for number in (reads, writes)]
 
@@ -45,10 +46,11 @@ class Browser:
         return self
 
     def __exit__(self, kind: type[BaseException] | None, error: BaseException | None, trace: TracebackType | None) -> None:
-        self.process.terminate()
+        self.session = ""
         try:
+            self.ask("Browser.close")
             self.process.wait(10)
-        except subprocess.TimeoutExpired:
+        except (OSError, RuntimeError, subprocess.TimeoutExpired):
             self.process.kill()
             self.process.wait()
         os.close(self.to)

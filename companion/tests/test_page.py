@@ -112,6 +112,11 @@ class Pages(ReportTest):
         self.assertNotIn("tenth", shown)
         self.assertIn("of class 4 and tenth 5", hidden)
 
+    def test_who_shares_what_is_full(self) -> None:
+        rows = Tables(self.page(TWO_LINES, TWO_LINES_ANSWER, TWO_LINES_TOLD)).rows["sharing"]
+        self.assertEqual(rows[1:], [["S1", "100", "100", "1", "1", "R1", "D1", "0", "80"],
+                                    ["S1", "100", "100", "4", "2", "R1", "D1", "0", "20"]])
+
     def test_digits_are_grouped(self) -> None:
         rows = Tables(self.page(*winter_day(), WINTER_TOLD)).rows
         self.assertEqual(rows["elements"][3][5:8], ["80,000", "80,000", "0"])
