@@ -125,9 +125,10 @@ def cut_element_table(facts: Facts, name: str = "elements") -> Table:
     return {"id": name, "columns": columns, "rows": rows, "marks": marks, "choice": 1}
 
 
-ROUND_COLUMNS = [column("line", number=True), column("shipper", name=True), column("contract", name=True),
-                 column("package", name=True), column("from", name=True), column("to", name=True), column("class", number=True),
-                 *numbers("nominated", "confirmed"), column("confirmed by", words=True), *numbers("floor")]
+# Names that go together share a column, so that all columns of a desk's window are seen.
+ROUND_COLUMNS = [column("line", number=True), column("shipper"), column("contract, package"), column("from, to"),
+                 column("class", number=True), *numbers("nominated", "confirmed"), column("confirmed by", words=True),
+                 *numbers("floor")]
 
 
 def by_cell(line: RoundLine, cycle: int) -> Sentences:
@@ -137,8 +138,8 @@ def by_cell(line: RoundLine, cycle: int) -> Sentences:
 
 def round_line_cells(line: RoundLine, cycle: int) -> list[Cell]:
     at = line.line
-    return [at.number, at.shipper, at.contract, at.package, at.origin, at.destination, line.class_number, line.nominated,
-            line.confirmed, by_cell(line, cycle), line.floor]
+    return [at.number, at.shipper, f"{at.contract}, {at.package}", f"{at.origin} to {at.destination}", line.class_number,
+            line.nominated, line.confirmed, by_cell(line, cycle), line.floor]
 
 
 def round_line_table(made: RoundFacts, name: str) -> Table:
@@ -149,7 +150,7 @@ def round_line_table(made: RoundFacts, name: str) -> Table:
         less = None if line.scheduled is None else max(line.nominated - line.scheduled, 0)
         why = why_cell(reasons_of(line, cycle, label), line.reason)
         rows.append([*round_line_cells(line, cycle), line.scheduled, less, line.bumped, why])
-    marks = [mark("with less than nominated", 12, "short"), mark("bumped", 13, "bumped")]
+    marks = [mark("with less than nominated", 10, "short"), mark("bumped", 11, "bumped")]
     return {"id": name, "columns": columns, "rows": rows, "marks": marks, "choice": 1}
 
 
@@ -163,7 +164,7 @@ def round_cut_table(made: RoundFacts, excess: int, name: str) -> Table:
         means = "" if left is None else "this set is no cut" if left <= 0 else f"{grouped(left)} too many"
         rows.append([*round_line_cells(line, made.round.cycle), ways.get(line.cut_way, ""), line.cut_quantity, line.freed,
                      means])
-    return {"id": name, "columns": columns, "rows": rows, "marks": [mark("those that count", 12, "crosses")], "choice": 1}
+    return {"id": name, "columns": columns, "rows": rows, "marks": [mark("those that count", 10, "crosses")], "choice": 1}
 
 
 def shown_sharings(facts: Facts) -> list[Sharing]:
@@ -198,7 +199,7 @@ def round_sharing(made: RoundFacts, facts: Facts, name: str) -> Table:
     def who(line: int) -> Sequence[Cell]:
         at = made.lines[line - 1].line
         return at.shipper, at.contract
-    return sharing_table(facts, name, ROUND_COLUMNS[1:3], who)
+    return sharing_table(facts, name, [column("shipper", name=True), column("contract", name=True)], who)
 
 
 def call_table(day: Day) -> Table:
