@@ -29,9 +29,9 @@ def inputs_html(inputs: Iterable[Input]) -> str:
 
 def checks_html(report: Report) -> str:
     notes = "".join(f'<p class="note">{escape(note)}</p>' for note in report.notes)
-    kind = "note" if report.program else "warn"
+    by = f'<p class="{"warn" if report.is_alone() else "note"}">{escape(report.checked_by())}</p>' if report.checked_by() else ""
     return section("What was checked", f'<div class="verdicts">{"".join(map(verdict_html, report.verdicts))}</div>',
-                   f'<p class="{kind} by">{escape(report.checked_by())}</p>', inputs_html(report.inputs), notes)
+                   by, inputs_html(report.inputs), notes)
 
 
 def schedule_html(facts: Facts) -> str:
@@ -66,8 +66,8 @@ def under_title(report: Report) -> str:
     if not report.passed():
         return "The answer did not pass its check, so nothing of it is shown."
     lines = f"{counted(len(report.facts.lines), 'line')}. " if report.facts else ""
-    proved = ("This page is not proved; the check of gasday is." if report.program else
-              "Nothing of this page is proved, nor is certificate.py, which alone has checked it.")
+    proved = ("Nothing of this page is proved, nor is certificate.py, which alone has checked it." if report.is_alone() else
+              "This page is not proved; the check of gasday is.")
     return f"{lines}Quantities are dekatherms for one gas day. {proved}"
 
 

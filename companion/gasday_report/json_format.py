@@ -98,7 +98,7 @@ def json_of(report: Report) -> Names:
     whole = {
         "report": "gasday-report", "version": VERSION, "passed": report.passed(),
         "program": program and {"path": program.path, "version": program.version, "sha256": program.sha256},
-        "certificate_alone": program is None,
+        "certificate_alone": report.is_alone(),
         "verdicts": [{"by": v.by, "passed": v.passed, "words": v.words} for v in report.verdicts],
         "inputs": [{"role": file.role, "path": file.path, "sha256": file.digest()} for file in report.inputs],
         "notes": report.notes,

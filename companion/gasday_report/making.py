@@ -48,7 +48,7 @@ def add_answer(report: Report, arguments: argparse.Namespace) -> tuple[Input, Qu
         raise Fault(f"answer: it holds no schedule and no cut, but tells {','.join(row).rstrip(',')}")
     if of_kinds(answer.rows(), ("bumped",)):
         report.notes.append("What the answer says of bumped lines is shown as it stands: neither check looks at it.")
-    verdicts = program_verdicts(report.program, question, answer) if report.program else []
+    verdicts = program_verdicts(report.program.path, question, answer) if report.program else []
     own, asked, given = own_verdict(question, answer)
     together = [] if arguments.posting else answer_verdict(question, answer, asked)
     report.verdicts += [*verdicts, own, *together]

@@ -165,7 +165,7 @@ class Rounds:
     def check(self, at: Round, question: bytes, answer: Input) -> Facts | None:
         """The facts of a round whose answer passes."""
         asked_input = Input("question", f"the question of round {at.number}", question)
-        verdicts = program_verdicts(self.program, asked_input, answer)
+        verdicts = program_verdicts(self.program.path, asked_input, answer)
         own, asked, given = own_verdict(asked_input, answer)
         verdicts.append(own)
         self.verdicts += [(at.number, verdict) for verdict in verdicts]

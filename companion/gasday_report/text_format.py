@@ -20,7 +20,7 @@ MOST_MEMBERS = 20
 def verdict_rows(report: Report) -> list[str]:
     """The verdicts, and who gave them."""
     rows = [f"{'PASS' if verdict.passed else 'FAIL'}  {verdict.by}: {verdict.words}" for verdict in report.verdicts]
-    return [*rows, report.checked_by()]
+    return [*rows, report.checked_by()] if report.checked_by() else rows
 
 
 def input_rows(inputs: Iterable[Input]) -> list[str]:

@@ -6,7 +6,7 @@ from typing import NamedTuple
 from certificate import Answer, Question, Unreadable, Wrong, verdict_of
 
 from .program import BUILT as BUILT
-from .program import Program
+from .program import call
 from .program import program_at as program_at
 from .texts import ANSWER_KINDS, Fault, Input, Row, of_kinds, question_text, rows_in, written
 
@@ -57,13 +57,13 @@ def claim_verdict(answer: Input, told: Sequence[Row]) -> list[Verdict]:
     return []
 
 
-def program_verdicts(program: Program, question: Input, answer: Input) -> list[Verdict]:
+def program_verdicts(program: str, question: Input, answer: Input) -> list[Verdict]:
     """What `gasday check ..` says of the question with the answer's own rows behind it; after a PASS also whether the
     answer claims as much."""
     rows = answer.rows()
     word = "cut" if is_cut(rows) else "best"
     text = question_text(question) + written(of_kinds(rows, ANSWER_KINDS))
-    out, status = program.call(["check", word], text)
+    out, status = call(program, ["check", word], text)
     told = rows_in(out, f"gasday check {word}")
     by = f"gasday check {word}"
     if told and told[0][0] == "fault":
