@@ -1,7 +1,7 @@
 """A gas day's calls, and what each was told; and its cycles."""
 
 import os
-from collections.abc import Iterator, Sequence
+from collections.abc import Callable, Iterator, Sequence
 from dataclasses import dataclass
 from typing import NamedTuple
 
@@ -51,6 +51,9 @@ REFUSALS = {
 }
 
 
+Amount = Callable[[str], str]
+
+
 class Call(NamedTuple):
     number: int
     seconds: int
@@ -91,14 +94,15 @@ def cycle_name(field: str) -> str:
     return f"cycle {number} ({CYCLES.get(number, 'unknown')})"
 
 
-def asked_words(row: Row) -> str:
+def asked_words(row: Row, amount: Amount = str) -> str:
+    """What a call asks, with its quantities as they are, or as they are to be shown."""
     kind = row[0]
     if kind == "nominate":
-        return f"{row[2]} nominates {amount_in(row[7])} under {row[3]}, package {row[4]}, from {row[5]} to {row[6]}"
+        return f"{row[2]} nominates {amount(row[7])} under {row[3]}, package {row[4]}, from {row[5]} to {row[6]}"
     if kind == "respond":
-        return f"{row[2]} confirms {amount_in(row[5])} at the {ENDS.get(row[4], row[4])} of line {row[3]}"
+        return f"{row[2]} confirms {amount(row[5])} at the {ENDS.get(row[4], row[4])} of line {row[3]}"
     if kind == "post":
-        return f"{row[2]} is posted at {amount_in(row[3])}"
+        return f"{row[2]} is posted at {amount(row[3])}"
     words = {"freeze": "the cycle is to be frozen", "settle": "the frozen question is to be solved",
              "skip": "the cycle is to be skipped", "publish": f"a schedule is offered for round {row[2]}",
              "declare": f"a cut is offered for round {row[2]}", "waive": f"line {row[2]} gives up its protection"}
@@ -111,7 +115,8 @@ def refusal_words(row: Row) -> str:
     return f"refused, {row[3]}: {words.format(detail) if detail else words.replace(' ({})', '')}"
 
 
-def told_words(row: Row, rest: Sequence[Row]) -> str:
+def told_words(row: Row, rest: Sequence[Row], amount: Amount = str) -> str:
+    """And what it was told."""
     kind = row[0]
     if kind == "refused":
         return refusal_words(row)
@@ -124,7 +129,7 @@ def told_words(row: Row, rest: Sequence[Row]) -> str:
         return f"{head}, with {counted(number_of(row[4], 'replies'), 'line')}"
     if kind == "declared":
         return f"{head} has no schedule, as a cut shows"
-    totals = [f"{amount_in(total[2])} in class {total[1]}" for total in of_kinds(rest, ("total",)) if total[2] != "0"]
+    totals = [f"{amount(total[2])} in class {total[1]}" for total in of_kinds(rest, ("total",)) if total[2] != "0"]
     bumped = of_kinds(rest, ("bumped",))
     more = f"; {counted(len(bumped), 'line')} bumped" if bumped else ""
     return f"{head}, {listed(totals) or 'nothing'} scheduled{more}"
@@ -163,9 +168,9 @@ def calls_of(events: Sequence[Row], groups: Sequence[tuple[Row, list[Row]]], clo
     for number, (row, (head, rest)) in enumerate(zip(asked, groups, strict=True), 1):
         check_fields(row, "events")
         check_fields(head, "replies")
-        seconds = number_of(row[1], "events")
-        yield Call(number, seconds, clock.show(seconds), row[0], asked_words(row), head[0] == "refused",
-                   told_words(head, rest), [detail_words(detail) for detail in rest if detail[0] != "total"], row, head)
+        seconds, details = number_of(row[1], "events"), [detail_words(detail) for detail in rest if detail[0] != "total"]
+        yield Call(number, seconds, clock.show(seconds), row[0], asked_words(row, amount_in), head[0] == "refused",
+                   told_words(head, rest, amount_in), details, row, head)
 
 
 def taken_of(events: Sequence[Row], groups: Sequence[tuple[Row, list[Row]]]) -> Iterator[Taken]:
