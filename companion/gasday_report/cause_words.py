@@ -5,7 +5,7 @@ from collections.abc import Callable, Iterator, Sequence
 from .causes import ELAPSED, HIGHER_CLASS, SILENCE, AnswerCause, Cause, ElementCause, EndAnswer, PoolCause
 from .reasons import Reason
 from .sharing import MOST_SHARERS, ClassShare, Sharing
-from .words import counted, displaced, grouped, listed
+from .words import counted, grouped, listed
 
 # What a line is called where others may read of it; empty where they may not.
 Label = Callable[[int], str]
@@ -112,11 +112,7 @@ def words_of(causes: Sequence[Cause], cycle: int, own_class: int, label: Label) 
 
 def arithmetic_words(reason: Reason) -> Iterator[str]:
     """What the next dekatherm would displace, element by element, and what it is worth."""
-    for element, amount in reason.paid:
-        yield f"at {element} {displaced(amount)}"
-    for element, amount in reason.back:
-        yield f"in return, at {element}, {displaced(amount)}"
+    yield from reason.words
     if reason.more:
         yield f"{counted(reason.more, 'more element')} of its route with a price"
-    worth = "is worth less than all that" if reason.is_less else "is worth just that, so nothing would be gained"
-    yield f"its next dekatherm, of class {reason.class_number} and tenth {reason.tenth}, {worth}"
+    yield reason.rest

@@ -6,6 +6,8 @@ from typing import NamedTuple
 
 from certificate import NOTHING, Answer, Line, Question, Words, plus, tenth_of, worth_of
 
+from .words import displaced
+
 # A route may have thousands of priced segments: so many of a rank are looked at from each end, and so many are named.
 MOST_LOOKED_AT = 32
 MOST_NAMED = 3
@@ -33,6 +35,18 @@ class Reason(NamedTuple):
     class_number: int
     tenth: int
     is_less: bool  # whether it is worth less than all that it would pay, and not just as much
+
+    @property
+    def words(self) -> list[str]:
+        """What the next dekatherm would displace, element by element, and what it would let in."""
+        return [*(f"at {element} {displaced(amount)}" for element, amount in self.paid),
+                *(f"in return, at {element}, {displaced(amount)}" for element, amount in self.back)]
+
+    @property
+    def rest(self) -> str:
+        """And how its worth compares."""
+        worth = "is worth less than all that" if self.is_less else "is worth just that, so nothing would be gained"
+        return f"its next dekatherm, of class {self.class_number} and tenth {self.tenth}, {worth}"
 
 
 class Trace(NamedTuple):
