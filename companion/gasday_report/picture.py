@@ -259,8 +259,9 @@ def graph_of(part: Part) -> tuple[list[Node], list[Edge]]:
 
 def svg_of(layout: Layout, drawn: Sequence[str]) -> str:
     """The picture of what was drawn, of its own size at most."""
-    return (f'<svg class="pipeline" viewBox="-8 -8 {layout.width + 16:.0f} {layout.height + 16:.0f}"'
-            f' style="max-width:{1.3 * (layout.width + 16):.0f}px" role="group" aria-label="The pipeline">{"".join(drawn)}</svg>')
+    width, height = layout.width + 16, layout.height + 16
+    return (f'<svg class="fits" viewBox="-8 -8 {width:.0f} {height:.0f}" width="{1.3 * width:.0f}" height="{1.3 * height:.0f}"'
+            f' role="group" aria-label="The pipeline">{"".join(drawn)}</svg>')
 
 
 def picture_of(facts: Facts) -> tuple[str, str]:
