@@ -4,12 +4,13 @@
 _gasday_report() {
     local word=${COMP_WORDS[COMP_CWORD]} before=${COMP_WORDS[COMP_CWORD - 1]} offered='' files=''
     COMPREPLY=()
-    offered='--events --replies --gasday --format --table --local --help' files=-f
+    offered='--events --replies --book --archive --posting --notices --gasday --certificate-alone --format --arithmetic --table --local --help' files=-f
     case $before in
-        --events | --replies | --gasday | *[\<\>]*) offered='' files=-f ;;
-        --local) offered='' files= ;;
+        --events | --replies | --book | --archive | --gasday | *[\<\>]*) offered='' files=-f ;;
+        --notices) offered='' files=-d ;;
+        --posting | --local) offered='' files= ;;
         --format) offered='text json csv html' files= ;;
-        --table) offered='lines elements calls' files= ;;
+        --table) offered='lines elements sharing calls cycle-lines cycle-elements cycle-sharing' files= ;;
     esac
     mapfile -t COMPREPLY < <(compgen -W "$offered" -- "$word")
     if [ -n "$files" ]; then

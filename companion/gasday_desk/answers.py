@@ -10,11 +10,14 @@ from dataclasses import dataclass
 from pathlib import Path
 
 from certificate import Question, Unreadable
-from gasday_report.day import day_of, day_verdict
+from gasday_report.cause_words import unnamed
+from gasday_report.cause_words import words_of as words_of_causes
+from gasday_report.day import day_of, day_verdict, run_day
 from gasday_report.facts import Facts, facts_of
 from gasday_report.html_format import page_of
 from gasday_report.moments import Clock
 from gasday_report.picture import picture_of
+from gasday_report.program import program_of
 from gasday_report.report import Report
 from gasday_report.texts import Fault, Input
 from gasday_report.verdicts import Verdict, own_verdict, program_verdicts
@@ -39,6 +42,13 @@ class Shown:
     @property
     def facts(self) -> Facts | None:
         return self.report.facts
+
+    def why(self, number: int, cycle: int) -> str:
+        """Why a line has less than its ceiling, in words that name no other line; nothing where the checks don't pass."""
+        if self.facts is None:
+            return ""
+        fact = self.facts.lines[number - 1]
+        return "; ".join(words_of_causes(fact.causes, cycle, fact.class_number, unnamed))
 
     def picture(self) -> str:
         """The pipeline as SVG; nothing where the checks don't pass."""
@@ -73,6 +83,7 @@ def shown_of(program: Program, question: bytes, answer: bytes, name: str) -> Sho
     asked, given = Input("question", f"{name}-question.csv", question), Input("answer", f"{name}-answer.csv", answer)
     report.inputs += [asked, given]
     try:
+        report.program = program_of(program.path)
         verdicts = program_verdicts(program.path, asked, given)
         own, read, held = own_verdict(asked, given)
         report.verdicts += [*verdicts, own]
@@ -143,9 +154,14 @@ def contracted(view: DayView) -> dict[str, int]:
 def day_page(program: Program, text: bytes, told: bytes, zone: str) -> str:
     """The report of a whole day as one page: its calls, and what each was told."""
     events, replies = Input("events", "the day's text", text), Input("replies", "told", told)
-    verdict = day_verdict(program.path, events, replies)
-    day = day_of(program.path, events, replies, Clock(zone)) if verdict.passed else None
-    return page_of(Report([verdict], [events, replies], [], None, day))
+    asked = program_of(program.path)
+    run = run_day(asked, events)
+    report = Report(program=asked, verdicts=[day_verdict(run, replies)], inputs=[events, replies])
+    if report.passed():
+        day, verdicts = day_of(asked, events, run, Clock(zone))
+        report.verdicts += verdicts
+        report.day = day if report.passed() else None
+    return page_of(report)
 
 
 def save(shown: Shown, folder: Path, name: str) -> None:

@@ -210,13 +210,11 @@ def schedule_table(view: DayView, viewer: Viewer, cycle: int, answer: Shown | No
     one = view.published(cycle)
     if one is None:
         return table
-    facts = answer.facts if answer else None
     for number, (bound, quantity) in enumerate(zip(one.bounds, one.scheduled, strict=True), 1):
         line = view.lines[number - 1]
         if not viewer.sees_line(view, line, "schedule"):
             continue
-        reason = facts.lines[number - 1].reason if facts else None
-        why = "; ".join([*reason.words, reason.rest]) if reason else ""
+        why = answer.why(number, cycle) if answer else ""
         if number in one.bumped:
             table.marks[len(table.rows)] = "bumped"
         elif quantity < bound.ceiling:

@@ -145,7 +145,7 @@ class Built(DeskTest):
             digest, name = line.split("  ")
             self.assertEqual(hashlib.sha256((whole / name).read_bytes()).hexdigest(), digest)
         self.assertEqual(self.ask().ask("audit", str(whole / f"{book.stem}.book")).first()[0], "replayed")
-        self.assertIn("CITYGAS nominates 30000 under HEAT", (whole / "day.html").read_text())
+        self.assertIn("CITYGAS nominates 30,000 under HEAT", (whole / "day.html").read_text())
         told = self.ask().ask("day", text=(whole / f"{book.stem}.csv").read_bytes()).out
         self.assertEqual(told, (whole / "told.csv").read_bytes())
         self.assertIn("anna,shipper,CITYGAS", (whole / "calls.csv").read_text())
