@@ -9,6 +9,7 @@ there were tests and none failed.
 
 import os
 import shutil
+import signal
 import subprocess
 import sys
 import unittest
@@ -26,6 +27,8 @@ CHECKS = (
 
 def tests() -> tuple[int, int]:
     """How many tests passed, and how many failed."""
+    # (what is started in the background of a shell has Ctrl-C ignored, and so would have what the tests start)
+    signal.signal(signal.SIGINT, signal.default_int_handler)
     suite = unittest.defaultTestLoader.discover(str(COMPANION / "tests"))
     result = unittest.TextTestRunner(sys.stdout, verbosity=0).run(suite)
     failed = len(result.failures) + len(result.errors) + len(result.unexpectedSuccesses)
