@@ -89,6 +89,8 @@ for file in "$here"/completions/*; do
 done
 mkdir -p "$prefix/share/doc/gasday"
 cp -R "$here/README.md" "$here/gate.log" "$here/docs" "$here/examples" "$prefix/share/doc/gasday"
+# (they may have been unpacked for few)
+chmod -R a+rX "$prefix/share/doc/gasday"
 """
 
 CONTROL = """Package: gasday

@@ -173,7 +173,7 @@ def parser_of() -> argparse.ArgumentParser:
 @ends_in_order("gasday-desk")
 def main(words: Sequence[str] | None = None) -> int:
     options = parser_of().parse_args(words)
-    os.umask(0o027)
+    before = os.umask(0o027)
     try:
         return int(options.do(options))
     except (Wrong, Failed) as error:
@@ -181,4 +181,6 @@ def main(words: Sequence[str] | None = None) -> int:
     except ModuleNotFoundError as error:
         print(f"gasday-desk: Python has no {error.name}: apt-get install python3-flask python3-waitress, and run it by"
               " /usr/bin/python3", file=sys.stderr)
+    finally:
+        os.umask(before)
     return 2
