@@ -1,7 +1,7 @@
 """rt_ci.py [--first-build]
 
 Runs `rt ci` in the folder where it is called, as the command itself does, but that what it sums and asks of all crates below a
-crate, along every path to them, is kept: the sums alone took more than ten minutes of a processor.
+crate, along every path to them, is kept: the sums alone come to ten minutes of a processor.
 
 With --first-build the order of its work is another: who builds the program waits for the longest chain of crates, each of which
 stands on the one before, while processors idle at its end. So a check has the lower a priority, the shorter the longest chain of
