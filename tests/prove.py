@@ -7,7 +7,7 @@ and those below them. The libraries and programs stand in FOLDER/crates/*/out af
 output, and its last line and status are this program's; with --progress standard error tells how far it is.
 
 As many crates are checked side by side as there are processors, each by one process with one job, as far as memory allows. With
---progress those of long chains of crates get two, where there are more than two processors.
+--progress, where there are more than two processors, one more is, and those of long chains come first (tests/rt_ci.py).
 """
 
 import os
