@@ -9,7 +9,7 @@ use Rattle.std.specs.Cmp.Lexicographic.{bytes_decides}
 use Rattle.std.specs.Map.{keys_of}
 use Rattle.std.specs.Prelude.{if◌then◌else◌, ◌||◌, is_some, ◌==◌, MatchResult, All}
 use Rattle.std.specs.Result.{is_err}
-use Rattle.indexmap.proofs.MapLemmas.{some_index}
+use Rattle.gd_table.proofs.Places.{is_some-position}
 use Rattle.gd_rules.specs.Question.{Element}
 use Rattle.gd_system.specs.Pipeline.{Pipeline, names_of, number_of, same_name}
 use Rattle.gd_system.specs.Building.{joined, joined_within, checked_segment, known, entered}
@@ -47,7 +47,7 @@ keyed_keys (x ∷ xs) = ap (λ l. x ∷ l) (keyed_keys xs)
 
 found_known : (names : List (List ℕ)) (name : List ℕ) → is_some (number_of names name) ≡ known names name
 found_known names name =
-    sym (ap (λ l. is_some (number_of l name)) (keyed_keys names)) ∙ some_index (same_name name) (keyed names) ∙ is_some-lookup (same_name name) (keyed names) ∙ ap (λ l. known l name) (keyed_keys names)
+    sym (ap (λ l. is_some (number_of l name)) (keyed_keys names)) ∙ is_some-position (same_name name) (keyed names) ∙ is_some-lookup (same_name name) (keyed names) ∙ ap (λ l. known l name) (keyed_keys names)
 
 mirrored : (a b : List ℕ) → same_name a b ≡ false → same_name b a ≡ false
 mirrored a b h = go (same_name b a) refl
@@ -56,7 +56,7 @@ mirrored a b h = go (same_name b a) refl
     go true e = let yes : same_name a b ≡ true = (bytes_decides a b).1 (sym ((bytes_decides b a).0 e)) in cc
     go false e = e
 
-entered_known : (names : List (List ℕ)) (name : List ℕ) → known names name ≡ true → entered names name ≡ names
+pub entered_known : (names : List (List ℕ)) (name : List ℕ) → known names name ≡ true → entered names name ≡ names
 entered_known names name h = ap (λ (v : Bool). if v then names else names ++ name ∷ []) h
 
 pub entered_new : (names : List (List ℕ)) (name : List ℕ) → known names name ≡ false → entered names name ≡ names ++ name ∷ []

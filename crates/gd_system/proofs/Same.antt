@@ -1,6 +1,7 @@
 -- What it is for two entries to be the same.
-use Rattle.std.proofs.Common.{◌≡◌, ℕ, Bool, true, false, refl, List, ap, ap₂, sym, ◌&&◌, nat_eq, ◌∙◌}
+use Rattle.std.proofs.Common.{◌≡◌, ℕ, Bool, true, false, refl, List, [], ◌∷◌, map, ap, ap₂, sym, ◌&&◌, nat_eq, ◌∙◌}
 use Rattle.std.specs.Bool.{Decides}
+use Rattle.std.specs.Map.{keys_of}
 use Rattle.std.specs.Str.{bytes_eq}
 use Rattle.std.proofs.lemmas.Slice.Eq.{bytes_eq-Decides}
 use Rattle.std.proofs.lemmas.Bool.Decides.{Decides-eqb}
@@ -56,6 +57,17 @@ pools_decided a b =
 pub entries_decided : {V : Type 0} {E : V → V → Bool} → ((a b : V) → Decides (E a b) (a ≡ b)) → (a b : List ℕ × V) → Decides (bytes_eq a.0 b.0 && E a.1 b.1) (a ≡ b)
 entries_decided value a b =
     both _ _ (bytes_eq-Decides a.0 b.0) (value a.1 b.1) (λ p q. ap₂ (λ (x : List ℕ) (y : _). (x, y)) p q) (λ r. ap (λ v. v.0) r) (λ r. ap (λ v. v.1) r)
+
+pub units_decided : (a b : Unit {0}) → Decides true (a ≡ b)
+units_decided a b = (λ e. refl, λ r. refl)
+
+refill : (es : List (List ℕ × Unit {0})) → map (λ k. (k, tt)) (keys_of es) ≡ es
+refill [] = refl
+refill (x ∷ es) = ap (λ l. x ∷ l) (refill es)
+
+-- names alone make the entries that hold nothing else
+pub same_keys : (es fs : List (List ℕ × Unit {0})) → keys_of es ≡ keys_of fs → es ≡ fs
+same_keys es fs e = sym (refill es) ∙ ap (map (λ k. (k, tt))) e ∙ refill fs
 
 numbered : (k m n o : ℕ) → Decides (nat_eq k m && nat_eq n o) ((k ≡ m) × (n ≡ o))
 numbered k m n o = both _ _ (Decides-eqb k m) (Decides-eqb n o) (λ p q. (p, q)) (λ r. r.0) (λ r. r.1)

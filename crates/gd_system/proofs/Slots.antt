@@ -1,5 +1,5 @@
 -- What stands under each number: segments first, then points, then pools.
-use Rattle.std.proofs.Common.{◌≡◌, ℕ, ◌+◌, ◌-◌, ◌<◌, ◌≤◌, List, [], ◌++◌, length, map, get_or, Option, Some, None, refl, sym, ap, ◌∙◌, arith}
+use Rattle.std.proofs.Common.{◌≡◌, ℕ, zero, suc, ◌+◌, ◌-◌, ◌<◌, ◌≤◌, List, [], ◌∷◌, ◌++◌, length, map, get_or, Option, Some, None, refl, sym, ap, ◌∙◌, arith}
 use Rattle.std.specs.Prelude.{slice_get}
 use Rattle.std.specs.Option.{option_map}
 use Rattle.std.specs.Map.{keys_of}
@@ -13,6 +13,12 @@ use Rattle.gd_system.specs.declared.part.Point.{Point}
 use Rattle.gd_system.specs.declared.part.Pool.{Pool}
 use Rattle.gd_system.specs.declared.system.Row.TheVariants as row
 use Rattle.gd_system.proofs.Positions.{position_first, position_rest, slice_get_first, slice_get_made}
+
+-- where nothing stands no list reaches
+pub none_past : {X : Type 0} (xs : List X) (i : ℕ) → None ≡ slice_get xs i → length xs ≤ i
+none_past [] i e = omega arith
+none_past (x ∷ xs) zero e = cc
+none_past (x ∷ xs) (suc i) e = let rest = none_past xs i e in omega arith
 
 -- how many there are
 pub length-elements : (p : Pipeline) → length (elements_of p) ≡ length p.tree + length p.points + length p.pools

@@ -6,13 +6,12 @@ ghost use Rattle.gd_tree.specs.Grown.{Joins};
 ghost use Rattle.gd_system.specs.Join.{join_of};
 ghost use Rattle.gd_system.specs.Pipeline.{names_of, same_name};
 ghost use Rattle.gd_system.specs.Building.{empty, known, entered, checked_segment, checked_point, checked_pool, after_segment, after_point, after_pool};
-ghost use Rattle.indexmap.specs.IndexSet.{spare};
-ghost use Rattle.indexmap.specs.IndexMap.{spare as map_spare, get};
+ghost use Rattle.gd_table.specs.Table.{keys};
 
 use crate::{BuildFault, Kind, MAX_POINTS, MAX_POOLS, MAX_SEGMENTS, PlaceId, Point, Pool, System};
+use gd_table::Table;
 use gd_tree::{Segment, Tree};
 use gd_units::{Dth, Name};
-use indexmap::{IndexMap, IndexSet};
 use std::alloc::Global;
 use std::marker::Model;
 
@@ -41,31 +40,24 @@ fn joining(
 }
 
 /// Enters a name in room that is there: it goes last, where it is new.
-fn enter(names: &mut IndexSet<Name>, name: Name)
-    requires { 0 < spare names.old }
-    ensures keys { names.new.keys ≡ entered names.old.keys name }
-    ensures room { spare names.old ≤ spare names.new + 1 }
+fn enter(names: &mut Table<Name, ()>, name: Name)
+    requires { 0 < names.old.spare }
+    ensures keys { keys names.new ≡ entered (keys names.old) name }
+    ensures room { names.old.spare ≤ names.new.spare + 1 }
 {
-    names.insert(name).unwrap();
-}
-
-/// Adds a new name with its value, last, in room that is there.
-fn add<V: Drop>(entries: &mut IndexMap<Name, V>, name: Name, value: V)
-    requires room { 0 < map_spare entries.old }
-    requires new { get same_name entries.old name ≡ None }
-    ensures { entries.new.entries ≡ entries.old.entries ++ (name, value) ∷ [] }
-{
-    entries.insert(name, value).unwrap();
+    if !names.contains_key(name) {
+        names.push(name, ());
+    }
 }
 
 /// A pipeline in the making. After any refusal it is as it was.
 #[derive(Drop)]
 pub struct SystemBuilder {
-    places: IndexSet<Name>,
-    segments: IndexSet<Name>,
+    places: Table<Name, ()>,
+    segments: Table<Name, ()>,
     tree: Tree,
-    points: IndexMap<Name, Point>,
-    pools: IndexMap<Name, Pool>,
+    points: Table<Name, Point>,
+    pools: Table<Name, Pool>,
 }
 
 impl Model for SystemBuilder {
@@ -86,11 +78,11 @@ impl SystemBuilder {
         ensures { result ≡ empty }
     {
         SystemBuilder {
-            places: IndexSet::new(alloc),
-            segments: IndexSet::new(alloc),
+            places: Table::new(alloc),
+            segments: Table::new(alloc),
             tree: Tree::new(alloc),
-            points: IndexMap::new(alloc),
-            pools: IndexMap::new(alloc),
+            points: Table::new(alloc),
+            pools: Table::new(alloc),
         }
     }
 
@@ -98,9 +90,9 @@ impl SystemBuilder {
     fn has(&self, name: Name) -> bool
         ensures { result ≡ known (names_of self.now) name }
     {
-        self.segments.contains(&name)
-            || self.points.contains_key(&name)
-            || self.pools.contains_key(&name)
+        self.segments.contains_key(name)
+            || self.points.contains_key(name)
+            || self.pools.contains_key(name)
     }
 
     /// The first refusal of a segment, or the places that it joins.
@@ -114,8 +106,8 @@ impl SystemBuilder {
             return Err(BuildFault::Duplicate);
         }
         let count = self.tree.len();
-        let a = self.places.get_index_of(&from);
-        let b = self.places.get_index_of(&to);
+        let a = self.places.get_index_of(from);
+        let b = self.places.get_index_of(to);
         match joining(count, from == to, a, b) {
             None => Err(BuildFault::Unjoined),
             Some(joined) => {
@@ -175,7 +167,7 @@ impl SystemBuilder {
         if self.has(name) {
             return Err(BuildFault::Duplicate);
         }
-        match self.places.get_index_of(&place) {
+        match self.places.get_index_of(place) {
             None => Err(BuildFault::UnknownPlace),
             Some(at) => {
                 if self.points.len() >= MAX_POINTS {
@@ -197,7 +189,7 @@ impl SystemBuilder {
         if self.has(name) {
             return Err(BuildFault::Duplicate);
         }
-        match self.places.get_index_of(&place) {
+        match self.places.get_index_of(place) {
             None => Err(BuildFault::UnknownPlace),
             Some(at) => {
                 if self.pools.len() >= MAX_POOLS {
@@ -242,7 +234,7 @@ impl SystemBuilder {
             operator,
             capacity,
         };
-        add(&mut self.points, name, point);
+        self.points.push(name, point);
         Ok(())
     }
 
@@ -267,7 +259,7 @@ impl SystemBuilder {
             place: PlaceId(at),
             operator,
         };
-        add(&mut self.pools, name, pool);
+        self.pools.push(name, pool);
         Ok(())
     }
 

@@ -2,6 +2,7 @@
 
 ghost use Rattle.std.specs.Prelude.{◌≡◌, ◌↔◌, IsTrue, ◌<◌, length, Some, None, IfSome, IfOk, slice_get};
 ghost use Rattle.std.specs.Option.{option_map};
+ghost use Rattle.gd_table.specs.Table.{keys};
 ghost use Rattle.gd_rules.specs.Tree.{IsTree};
 ghost use Rattle.gd_system.specs.Pipeline.{elements_of, names_of, operator_at, number_of, element_number};
 ghost use Rattle.gd_system.specs.Parts.{element_of};
@@ -10,9 +11,9 @@ ghost use Rattle.gd_system.specs.Known.{IsSystem};
 ghost use Rattle.gd_system.specs.Row.{IsRow};
 
 use crate::{Element, Kind, Part, PlaceId, Point, Pool};
+use gd_table::Table;
 use gd_tree::Tree;
 use gd_units::Name;
-use indexmap::{IndexMap, IndexSet};
 use std::alloc::{AllocError, Global};
 use std::marker::Model;
 
@@ -22,11 +23,11 @@ use std::marker::Model;
 /// 0 in order of first mention. Only `route` and `try_clone` take memory.
 #[derive(Drop)]
 pub struct System {
-    pub(crate) places: IndexSet<Name>,
-    pub(crate) segments: IndexSet<Name>,
+    pub(crate) places: Table<Name, ()>,
+    pub(crate) segments: Table<Name, ()>,
     pub(crate) tree: Tree,
-    pub(crate) points: IndexMap<Name, Point>,
-    pub(crate) pools: IndexMap<Name, Pool>,
+    pub(crate) points: Table<Name, Point>,
+    pub(crate) pools: Table<Name, Pool>,
 }
 
 impl Model for System {
@@ -49,22 +50,22 @@ enum Row {
     Pool(Name, Pool),
 }
 
-fn same_names(a: &IndexSet<Name>, b: &IndexSet<Name>) -> bool
-    ensures { IsTrue result ↔ (a.now.keys ≡ b.now.keys) }
+fn same_names(a: &Table<Name, ()>, b: &Table<Name, ()>) -> bool
+    ensures { IsTrue result ↔ (keys a.now ≡ keys b.now) }
 {
-    a.as_slice() == b.as_slice()
+    a.entries() == b.entries()
 }
 
-fn same_points(a: &IndexMap<Name, Point>, b: &IndexMap<Name, Point>) -> bool
+fn same_points(a: &Table<Name, Point>, b: &Table<Name, Point>) -> bool
     ensures { IsTrue result ↔ (a.now.entries ≡ b.now.entries) }
 {
-    a.as_slice() == b.as_slice()
+    a.entries() == b.entries()
 }
 
-fn same_pools(a: &IndexMap<Name, Pool>, b: &IndexMap<Name, Pool>) -> bool
+fn same_pools(a: &Table<Name, Pool>, b: &Table<Name, Pool>) -> bool
     ensures { IsTrue result ↔ (a.now.entries ≡ b.now.entries) }
 {
-    a.as_slice() == b.as_slice()
+    a.entries() == b.entries()
 }
 
 impl System {
@@ -80,11 +81,11 @@ impl System {
     pub fn try_clone(&self, alloc: Global) -> Result<System, AllocError>
         ensures { IfOk result (λ copy. copy ≡ self.now) }
     {
-        let places = self.places.clone()?;
-        let segments = self.segments.clone()?;
+        let places = self.places.try_clone(alloc)?;
+        let segments = self.segments.try_clone(alloc)?;
         let tree = self.tree.try_clone(alloc)?;
-        let points = self.points.clone()?;
-        let pools = self.pools.clone()?;
+        let points = self.points.try_clone(alloc)?;
+        let pools = self.pools.try_clone(alloc)?;
         Ok(System {
             places,
             segments,
@@ -157,11 +158,11 @@ impl System {
             return Row::Segment;
         }
         let at = element.0 - segments;
-        if let Some((name, point)) = self.points.get_index(at) {
-            return Row::Point(*name, *point);
+        if let Some(entry) = self.points.get_index(at) {
+            return Row::Point(entry.0, entry.1);
         }
         match self.pools.get_index(at - self.points.len()) {
-            Some((name, pool)) => Row::Pool(*name, *pool),
+            Some(entry) => Row::Pool(entry.0, entry.1),
             None => unreachable!(),
         }
     }
@@ -194,7 +195,7 @@ impl System {
         ensures { slice_get (names_of self.now) element.0 ≡ Some result }
     {
         match self.row(element) {
-            Row::Segment => *self.segments.get_index(element.0).unwrap(),
+            Row::Segment => self.segments.get_index(element.0).unwrap().0,
             Row::Point(name, _) => name,
             Row::Pool(name, _) => name,
         }
@@ -217,7 +218,7 @@ impl System {
         requires { place.0 < length self.now.places }
         ensures { slice_get self.now.places place.0 ≡ Some result }
     {
-        *self.places.get_index(place.0).unwrap()
+        self.places.get_index(place.0).unwrap().0
     }
 
     /// The place of this name.
@@ -225,7 +226,7 @@ impl System {
         ensures is { option_map (λ p. p.0) result ≡ number_of self.now.places name }
         ensures within { IfSome result (λ p. p.0 < length self.now.places) }
     {
-        self.places.get_index_of(&name).map(PlaceId)
+        self.places.get_index_of(name).map(PlaceId)
     }
 
     /// The segment, point or pool of this name.
@@ -234,13 +235,13 @@ impl System {
         ensures within { IfSome result (λ e. e.0 < length (elements_of self.now)) }
     {
         let segments = self.tree.len();
-        if let Some(at) = self.segments.get_index_of(&name) {
+        if let Some(at) = self.segments.get_index_of(name) {
             return Some(Element(at));
         }
-        if let Some(at) = self.points.get_index_of(&name) {
+        if let Some(at) = self.points.get_index_of(name) {
             return Some(Element(segments + at));
         }
-        let at = self.pools.get_index_of(&name)?;
+        let at = self.pools.get_index_of(name)?;
         Some(Element(segments + self.points.len() + at))
     }
 }

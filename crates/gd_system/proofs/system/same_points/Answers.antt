@@ -4,5 +4,5 @@ use Rattle.gd_system.proofs.system.same_points.Goals as goal
 
 pub returns : goal.returns
 returns c =
-    let d = slice_eq-Decides (entries_decided points_decided) c.as_slice.result c.as_slice-2.result c.eq.result c.eq.ensures in
-    rw (c.as_slice.ensures.entries, c.as_slice-2.ensures.entries) at d
+    let d = slice_eq-Decides (entries_decided points_decided) c.entries.result.now c.entries-2.result.now c.eq.result c.eq.ensures in
+    rw (c.entries.ensures.are, c.entries-2.ensures.are) at d
