@@ -5,3 +5,4 @@ pub mod Lockstep
 pub mod NewLines
 pub mod After
 pub mod Accept
+pub mod Entering

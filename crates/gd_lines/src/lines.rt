@@ -2,8 +2,7 @@
 
 ghost use Rattle.std.specs.Prelude.{◌≡◌, ℕ, ◌+◌, ◌-◌, ◌*◌, ◌==◌, ◌≢◌, nat_le, ◌<◌, ◌≤◌, ◌⊎◌, List, [], ◌∷◌, ◌++◌, length, get_or, map, filter, unwrap_or, take, All, IfOk, IfErr, OnOk, OnErr, Ok, Err, Some, if◌then◌else◌};
 ghost use Rattle.std.specs.Vec.{vec_len, vec_capacity};
-ghost use Rattle.indexmap.specs.IndexSet.{IsUnique, spare as key_spare};
-ghost use Rattle.indexmap.specs.IndexMap.{get, spare as sum_spare};
+ghost use Rattle.gd_table.specs.Table.{keys as keys_in, get, IsUnique};
 ghost use Rattle.std.specs.List.{position_or_len};
 ghost use Rattle.gd_rules.specs.Lines as rules;
 ghost use Rattle.gd_rules.specs.Lists as lists;
@@ -12,8 +11,8 @@ ghost use Rattle.gd_lines.specs.Numbering.{numbered, nomination};
 
 use crate::state::{Accepted, State, fill_from};
 use crate::{LineKey, LinesFault, MAX_LINES};
+use gd_table::Table;
 use gd_units::{Class, CycleNo, Dth, Name};
-use indexmap::{IndexMap, IndexSet};
 use std::alloc::{AllocError, Global};
 use std::marker::Model;
 
@@ -22,13 +21,13 @@ use std::marker::Model;
 /// A contract sees the list of the accepted nominations.
 #[derive(Drop)]
 pub struct Lines {
-    keys: IndexSet<LineKey>,
+    keys: Table<LineKey, ()>,
     // of the line of each number
     states: Vec<State>,
     // in the order of acceptance
     accepted: Vec<Accepted>,
     // for each contract the sum of its lines' last quantities
-    sums: IndexMap<Name, u64>,
+    sums: Table<Name, u64>,
     // how many lines are nominated until each cycle, from Timely
     counts: [u32; CycleNo::COUNT],
 }
@@ -48,20 +47,20 @@ impl Model for Lines {
 
 /// Makes room for one more nomination, on a line that may be new.
 fn make_room(
-    keys: &mut IndexSet<LineKey>,
+    keys: &mut Table<LineKey, ()>,
     states: &mut Vec<State>,
     accepted: &mut Vec<Accepted>,
-    sums: &mut IndexMap<Name, u64>,
+    sums: &mut Table<Name, u64>,
 ) -> Result<(), AllocError>
-    ensures same_keys { keys.new.keys ≡ keys.old.keys }
+    ensures same_keys { keys_in keys.new ≡ keys_in keys.old }
     ensures same_states { states.new.items ≡ states.old.items }
     ensures same_accepted { accepted.new.items ≡ accepted.old.items }
     ensures same_sums { sums.new.entries ≡ sums.old.entries }
     ensures distinct { OnOk result (IsUnique rules.same_key keys.new) }
-    ensures keys { OnOk result (0 < key_spare keys.new) }
+    ensures keys { OnOk result (0 < keys.new.spare) }
     ensures states { OnOk result (vec_len states.new < vec_capacity states.new) }
     ensures accepted { OnOk result (vec_len accepted.new < vec_capacity accepted.new) }
-    ensures sums { OnOk result (0 < sum_spare sums.new) }
+    ensures sums { OnOk result (0 < sums.new.spare) }
 {
     keys.reserve(1)?;
     states.reserve(1)?;
@@ -70,15 +69,22 @@ fn make_room(
 }
 
 /// The number of a key's line. A new key goes last, in room that is there.
-fn enter_key(keys: &mut IndexSet<LineKey>, key: LineKey) -> usize
-    requires { 0 < key_spare keys.old }
-    ensures keys { keys.new.keys ≡ rules.entered keys.old.keys key }
+fn enter_key(keys: &mut Table<LineKey, ()>, key: LineKey) -> usize
+    requires { 0 < keys.old.spare }
+    ensures keys { keys_in keys.new ≡ rules.entered (keys_in keys.old) key }
     ensures distinct { IsUnique rules.same_key keys.new }
-    ensures number { result ≡ position_or_len (rules.same_key key) keys.old.keys }
-    ensures within { result < length keys.new.keys }
-    ensures key { get_or keys.new.keys result rules.no_key ≡ key }
+    ensures number { result ≡ position_or_len (rules.same_key key) (keys_in keys.old) }
+    ensures within { result < length (keys_in keys.new) }
+    ensures key { get_or (keys_in keys.new) result rules.no_key ≡ key }
 {
-    keys.insert_full(key).unwrap().0
+    match keys.get_index_of(key) {
+        Some(line) => line,
+        None => {
+            let line = keys.len();
+            keys.push(key, ());
+            line
+        }
+    }
 }
 
 /// Enters the state of a new line, in room that is there.
@@ -115,8 +121,8 @@ fn renominate(states: &mut Vec<State>, line: usize, cycle: CycleNo, quantity: Dt
 }
 
 /// Changes a contract's sum by a line's new quantity, in room that is there.
-fn change_sum(sums: &mut IndexMap<Name, u64>, contract: Name, former: Dth, quantity: Dth)
-    requires room { 0 < sum_spare sums.old }
+fn change_sum(sums: &mut Table<Name, u64>, contract: Name, former: Dth, quantity: Dth)
+    requires room { 0 < sums.old.spare }
     requires counted { former ≤ unwrap_or (get rules.same_name sums.old contract) 0 }
     requires few { unwrap_or (get rules.same_name sums.old contract) 0 ≤ MAX_LINES * Dth.MAX }
     ensures small { quantity ≤ Dth.MAX }
@@ -126,9 +132,13 @@ fn change_sum(sums: &mut IndexMap<Name, u64>, contract: Name, former: Dth, quant
         then unwrap_or (get rules.same_name sums.old contract) 0 - former + quantity
         else unwrap_or (get rules.same_name sums.old other) 0) }
 {
-    let sum = sums.get(&contract).copied().unwrap_or(0);
-    let changed = sum - former.get() + quantity.get();
-    sums.insert(contract, changed).unwrap();
+    let known = sums.get(contract);
+    let changed = known.unwrap_or(0) - former.get() + quantity.get();
+    if known.is_some() {
+        sums.set(contract, changed);
+    } else {
+        sums.push(contract, changed);
+    }
 }
 
 /// Notes how many lines are nominated until a cycle and the later ones.
@@ -180,10 +190,10 @@ impl Lines {
         ensures { result ≡ [] }
     {
         Lines {
-            keys: IndexSet::new(alloc),
+            keys: Table::new(alloc),
             states: Vec::new(alloc),
             accepted: Vec::new(alloc),
-            sums: IndexMap::new(alloc),
+            sums: Table::new(alloc),
             counts: [0; CycleNo::COUNT],
         }
     }
@@ -193,7 +203,7 @@ impl Lines {
         ensures { result ≡ numbered self.now key }
     {
         let count = self.keys.len();
-        match self.keys.get_index_of(&key) {
+        match self.keys.get_index_of(key) {
             Some(line) => Ok(line),
             None => {
                 if count >= MAX_LINES {
@@ -257,7 +267,7 @@ impl Lines {
     pub fn find(&self, key: &LineKey) -> Option<u32>
         ensures { result ≡ rules.find self.now key.now }
     {
-        self.keys.get_index_of(key).map(|line| line as u32)
+        self.keys.get_index_of(*key).map(|line| line as u32)
     }
 
     /// What makes the line of this number.
@@ -265,7 +275,7 @@ impl Lines {
         requires { line < length (rules.lines_of self.now) }
         ensures { result ≡ rules.line_key self.now line }
     {
-        self.keys[line as usize]
+        self.keys.get_index(line as usize).unwrap().0
     }
 
     /// The class of a line.
@@ -289,7 +299,7 @@ impl Lines {
         ensures is { result ≡ rules.committed self.now contract }
         ensures small { result ≤ MAX_LINES * Dth.MAX }
     {
-        self.sums.get(&contract).copied().unwrap_or(0)
+        self.sums.get(contract).unwrap_or(0)
     }
 
     /// How many lines are nominated for this cycle or a former one. They are the first ones.
