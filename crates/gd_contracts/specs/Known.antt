@@ -1,5 +1,5 @@
 -- What holds of all contracts.
-use Rattle.std.specs.Prelude.{◌≡◌, ℕ, ◌≤◌, length, map, All, Ok}
+use Rattle.std.specs.Prelude.{◌≡◌, ◌≤◌, length, map, All, Ok}
 use Rattle.std.specs.List.{IsDistinct}
 use Rattle.gd_rules.specs.Limits.{most_contracts, bands}
 use Rattle.gd_system.specs.Pipeline.{Pipeline, same_name}

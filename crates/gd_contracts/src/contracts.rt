@@ -6,13 +6,11 @@ ghost use Rattle.gd_contracts.specs.Adding.{none_on, checked_contract, after_con
 ghost use Rattle.gd_contracts.specs.Adding as adding;
 ghost use Rattle.gd_contracts.specs.Known.{AreHoldings, IsBanded};
 ghost use Rattle.gd_contracts.specs.Inside.{contract_of};
-ghost use Rattle.gd_system.specs.Pipeline.{same_name};
-ghost use Rattle.indexmap.specs.IndexMap.{spare, get, IsUnique};
 
 use crate::{Contract, ContractFault, MAX_CONTRACTS, Service};
 use gd_system::{RouteFault, System};
+use gd_table::Table;
 use gd_units::{Dth, Name};
-use indexmap::IndexMap;
 use std::alloc::Global;
 use std::marker::Model;
 
@@ -22,16 +20,6 @@ struct Terms {
     shipper: Name,
     quantity: Dth,
     service: Service,
-}
-
-/// Adds a new name with its value, last, in room that is there.
-fn enter<V: Drop>(entries: &mut IndexMap<Name, V>, name: Name, value: V)
-    requires room { 0 < spare entries.old }
-    requires new { get same_name entries.old name ≡ None }
-    ensures last { entries.new.entries ≡ entries.old.entries ++ (name, value) ∷ [] }
-    ensures unique { IsUnique same_name entries.new }
-{
-    entries.insert(name, value).unwrap();
 }
 
 /// What is kept of a contract under its name.
@@ -68,7 +56,7 @@ fn read_band(service: Service)
 #[derive(Drop)]
 pub struct Contracts {
     pub(crate) system: System,
-    terms: IndexMap<Name, Terms>,
+    terms: Table<Name, Terms>,
 }
 
 impl Model for Contracts {
@@ -91,7 +79,7 @@ impl Contracts {
         system.known();
         Contracts {
             system,
-            terms: IndexMap::new(alloc),
+            terms: Table::new(alloc),
         }
     }
 
@@ -127,7 +115,7 @@ impl Contracts {
     pub fn contract(&self, name: Name) -> Option<Contract>
         ensures { result ≡ contract_named self.now.contracts name }
     {
-        let terms = self.terms.get(&name)?;
+        let terms = self.terms.get(name)?;
         Some(Contract {
             name,
             shipper: terms.shipper,
@@ -142,7 +130,7 @@ impl Contracts {
         ensures new { OnOk result (contract_named self.now.contracts name ≡ None) }
         ensures few { OnOk result (length self.now.contracts < MAX_CONTRACTS) }
     {
-        if self.terms.contains_key(&name) {
+        if self.terms.contains_key(name) {
             return Err(ContractFault::Duplicate);
         }
         if let Some(fault) = primary_refusal(&self.system, service) {
@@ -175,7 +163,7 @@ impl Contracts {
         self.check(name, terms.service)?;
         read_band(terms.service);
         self.terms.reserve(1)?;
-        enter(&mut self.terms, name, terms);
+        self.terms.push(name, terms);
         Ok(())
     }
 }

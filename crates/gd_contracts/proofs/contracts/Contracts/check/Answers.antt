@@ -22,7 +22,7 @@ pub returns-then-len-ge-MAX_CONTRACTS-clause-is : goal.returns-then-len-ge-MAX_C
 returns-then-len-ge-MAX_CONTRACTS-clause-is c =
     let h = holdings_of c.self.inside in
     let count = length-map c.self.inside.terms.entries contract_of in
-    sym (too_many (length h.contracts) (omega (arith, count, c.len.ensures.len, c.if-len-ge-MAX_CONTRACTS.true)))
+    sym (too_many (length h.contracts) (omega (arith, count, c.len.ensures.is, c.if-len-ge-MAX_CONTRACTS.true)))
     ∙ ap (routed_within (length h.contracts)) (sym c.in_default.is)
     ∙ checked_is h c.args.name c.args.service c.primary_refusal.result (some_named c.self.inside.terms.entries c.args.name ∙ sym c.contains_key.ensures ∙ c.if-contains_key.false) c.primary_refusal.ensures
     ∙ ap (λ h. checked_contract h c.args.name c.args.service) c.self.view_is
@@ -31,7 +31,7 @@ pub returns-clause-is : goal.returns-clause-is
 returns-clause-is c =
     let h = holdings_of c.self.inside in
     let count = length-map c.self.inside.terms.entries contract_of in
-    sym (few_enough (length h.contracts) (omega (arith, count, c.len.ensures.len, c.if-len-ge-MAX_CONTRACTS.false)))
+    sym (few_enough (length h.contracts) (omega (arith, count, c.len.ensures.is, c.if-len-ge-MAX_CONTRACTS.false)))
     ∙ ap (routed_within (length h.contracts)) (sym c.in_default.is)
     ∙ checked_is h c.args.name c.args.service c.primary_refusal.result (some_named c.self.inside.terms.entries c.args.name ∙ sym c.contains_key.ensures ∙ c.if-contains_key.false) c.primary_refusal.ensures
     ∙ ap (λ h. checked_contract h c.args.name c.args.service) c.self.view_is
