@@ -1,7 +1,6 @@
 //! What a book is opened with.
 
 ghost use Rattle.std.specs.Prelude.{◌≡◌, ◌<◌, ◌≤◌, ◌++◌, ◌∷◌, [], None, Some, All, IfOk, IfErr, OnOk, map};
-ghost use Rattle.indexmap.specs.IndexMap.{get, spare, IsUnique};
 ghost use Rattle.std.specs.List.{IsDistinct};
 ghost use Rattle.gd_rules.specs.Lines.{same_key};
 ghost use Rattle.gd_machine.specs.Day.{IsDay, carried};
@@ -11,8 +10,8 @@ ghost use Rattle.gd_book_part.specs.declared.opening.OpenFault.TheVariants.{OutO
 use gd_calendar::Calendar;
 use gd_contracts::Contracts;
 use gd_lines::LineKey;
+use gd_table::Table;
 use gd_units::{Dth, Name};
-use indexmap::IndexMap;
 use std::alloc::{AllocError, Global};
 use std::fmt;
 use std::marker::Model;
@@ -52,7 +51,7 @@ pub struct Opening {
     name: Name,
     contracts: Contracts,
     calendar: Calendar,
-    carry: IndexMap<LineKey, Dth>,
+    carry: Table<LineKey, Dth>,
 }
 
 impl Model for Opening {
@@ -75,32 +74,22 @@ impl Model for Opening {
     }) };
 }
 
-/// Adds a new line with what is carried over of it, last, in room that is there.
-fn enter(entries: &mut IndexMap<LineKey, Dth>, key: LineKey, quantity: Dth)
-    requires room { 0 < spare entries.old }
-    requires new { get same_key entries.old key ≡ None }
-    ensures last { entries.new.entries ≡ entries.old.entries ++ (key, quantity) ∷ [] }
-    ensures unique { IsUnique same_key entries.new }
-{
-    entries.insert(key, quantity).unwrap();
-}
-
 /// What is carried over, by key.
-fn carry_of(alloc: Global, carry: &[(LineKey, Dth)]) -> Result<IndexMap<LineKey, Dth>, OpenFault>
+fn carry_of(alloc: Global, carry: &[(LineKey, Dth)]) -> Result<Table<LineKey, Dth>, OpenFault>
     ensures entered { IfOk result (λ entries. entries.entries ≡ carry.now) }
     ensures distinct { OnOk result (IsDistinct same_key (map (λ e. e.0) carry.now)) }
     ensures small { OnOk result (All (λ e. e.1 ≤ Dth.MAX) carry.now) }
     ensures fault { IfErr result (ExplainsOpen carry.now) }
 {
-    let mut entries = IndexMap::new(alloc);
+    let mut entries = Table::new(alloc);
     for at in 0..carry.len() {
         let entry = carry[at];
         let _small = entry.1.get();
-        if entries.contains_key(&entry.0) {
+        if entries.contains_key(entry.0) {
             return Err(OpenFault::Duplicate(at));
         }
         entries.reserve(1)?;
-        enter(&mut entries, entry.0, entry.1);
+        entries.push(entry.0, entry.1);
     }
     Ok(entries)
 }
@@ -176,6 +165,6 @@ impl Opening {
     pub fn carried(&self, key: &LineKey) -> Dth
         ensures { result ≡ carried self.now key.now }
     {
-        self.carry.get(key).copied().unwrap_or(Dth::ZERO)
+        self.carry.get(*key).unwrap_or(Dth::ZERO)
     }
 }

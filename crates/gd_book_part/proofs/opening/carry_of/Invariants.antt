@@ -1,6 +1,6 @@
 use Rattle.std.proofs.Common.{◌≡◌, ◌≤◌, take}
 use Rattle.std.specs.Prelude.{All}
-use Rattle.indexmap.specs.IndexMap.{IsUnique}
+use Rattle.gd_table.specs.Table.{IsUnique}
 use Rattle.gd_rules.specs.Lines.{same_key}
 use Rattle.gd_book_part.proofs.opening.carry_of.Given as goal
 

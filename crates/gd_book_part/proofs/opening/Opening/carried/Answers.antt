@@ -7,6 +7,6 @@ use Rattle.gd_book_part.proofs.opening.Opening.carried.Goals as goal
 pub returns : goal.returns
 returns c =
     c.unwrap_or.ensures
-    ∙ ap (λ o. unwrap_or o 0) (c.copied.ensures ∙ c.get.ensures.value)
+    ∙ ap (λ o. unwrap_or o 0) c.get.ensures
     ∙ sym (find_lookup c.args.key.now c.self.inside.carry.entries)
     ∙ ap (λ (day : Day). carried day c.args.key.now) c.self.view_is
