@@ -1,10 +1,14 @@
 //! A walk along a history.
 
-ghost use Rattle.std.specs.Prelude.{◌≡◌, ◌+◌, ◌<◌, ◌≤◌, length, take, IfOk, OnOk, OnErr};
+ghost use Rattle.std.specs.Prelude.{◌≡◌, ◌+◌, ◌<◌, ◌≤◌, true, false, length, take, IfOk, OnOk, OnErr};
+ghost use Rattle.std.specs.Option.{MatchOption};
+ghost use Rattle.gd_machine.specs.Asking.{question};
+ghost use Rattle.gd_machine.specs.History.{is_frozen};
 ghost use Rattle.gd_machine.specs.Machine.{refusal_of, IsLegal, AllPass};
 
 use gd_book_part::{Opening, Tables};
 use gd_machine::{Event, Refusal, Reply};
+use gd_question::Question;
 use std::alloc::{AllocError, Global};
 use std::marker::Model;
 
@@ -86,6 +90,15 @@ impl<'b> Replay<'b> {
             self.go_on()?;
         }
         Ok(())
+    }
+
+    /// The frozen question, if the cycle is frozen after the events behind the place.
+    pub fn frozen(&self) -> Option<&Question>
+        ensures { MatchOption result (is_frozen (take self.now.at self.now.history) ≡ false)
+            (λ asked. (is_frozen (take self.now.at self.now.history) ≡ true)
+            × (asked.now ≡ question self.now.day (take self.now.at self.now.history))) }
+    {
+        self.tables.frozen()
     }
 
     /// The first refusal of an event after the events behind the place. It needs no memory.

@@ -11,7 +11,7 @@ ghost use Rattle.gd_live.specs.Lines.{Concludes, IsAcceptable};
 
 use crate::acceptance::{names_cut, offers_best};
 use gd_board::{Board, BoardNote};
-use gd_book::{Book, Event, MAX_EVENTS, Reply as BookReply};
+use gd_book::{Book, Event, MAX_EVENTS, Replay, Reply as BookReply};
 use gd_course::call;
 use gd_day::check_call;
 use gd_question::Question;
@@ -74,6 +74,14 @@ impl PostedBook {
         ensures holds { Holds self.now.day self.now.history }
     {
         self.book.history()
+    }
+
+    /// A walk along the history, from its beginning.
+    pub(crate) fn replay(&self) -> Result<Replay<'_>, AllocError>
+        ensures { IfOk result (λ replay. replay
+            ≡ record { day = self.now.day; history = self.now.history; at = 0 }) }
+    {
+        self.book.replay()
     }
 
     /// The frozen question, if the cycle is frozen.

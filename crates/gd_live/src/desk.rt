@@ -1,13 +1,13 @@
 //! Where the lines of a live run are taken.
 
-ghost use Rattle.std.specs.Prelude.{◌≡◌};
+ghost use Rattle.std.specs.Prelude.{◌≡◌, IfOk};
 ghost use Rattle.gd_machine.specs.Headline.{Holds};
 ghost use Rattle.gd_live.specs.Stands.{no_group};
 ghost use Rattle.gd_live.specs.Seen.{at_desk};
 
 use crate::live_book::LiveBook;
 use crate::room::Room;
-use gd_book::{Book, Event, Reply};
+use gd_book::{Book, Event, Replay, Reply};
 use gd_serving::{Given, TakesLines};
 use gd_units::Name;
 use std::alloc::{AllocError, Global};
@@ -50,6 +50,17 @@ impl Desk {
         ensures holds { Holds (at_desk self.now).day (at_desk self.now).history }
     {
         self.book.history()
+    }
+
+    /// A walk along the history, from its beginning. The only error is want of memory.
+    pub fn replay(&self) -> Result<Replay<'_>, AllocError>
+        ensures { IfOk result (λ replay. replay ≡ record {
+          day = (at_desk self.now).day;
+          history = (at_desk self.now).history;
+          at = 0;
+        }) }
+    {
+        self.book.replay()
     }
 
     /// A new run begins behind so many rows: rows that wait are dropped.

@@ -1,6 +1,6 @@
 //! What a line does to a book.
 
-ghost use Rattle.std.specs.Prelude.{◌≡◌, ◌≢◌, ◌≤◌, ◌+◌, ℕ, List, [], ◌∷◌, true, false, Ok, OnOk, Some, length};
+ghost use Rattle.std.specs.Prelude.{◌≡◌, ◌≢◌, ◌≤◌, ◌+◌, ℕ, List, [], ◌∷◌, true, false, Ok, OnOk, Some, length, IfOk};
 ghost use Rattle.gd_text_part.specs.declared.order.Place.{Place as APlace};
 ghost use Rattle.gd_text_part.specs.declared.row.EventRow.TheVariants as event_row;
 ghost use Rattle.gd_text_part.specs.declared.row.Row.TheVariants as row;
@@ -17,7 +17,7 @@ use crate::calls::{keep, tell};
 use crate::conclusion::{Conclusion, conclusion_of};
 use crate::group::Group;
 use crate::room::Room;
-use gd_book::{Book, Event, Reply as BookReply};
+use gd_book::{Book, Event, Replay, Reply as BookReply};
 use gd_day::{check_call, event_of};
 use gd_replies::Reply;
 use gd_serving::Given;
@@ -67,6 +67,14 @@ impl LiveBook {
         ensures holds { Holds self.now.book.day self.now.book.history }
     {
         self.book.history()
+    }
+
+    /// A walk along the history, from its beginning.
+    pub(crate) fn replay(&self) -> Result<Replay<'_>, AllocError>
+        ensures { IfOk result (λ replay. replay
+            ≡ record { day = self.now.book.day; history = self.now.book.history; at = 0 }) }
+    {
+        self.book.replay()
     }
 
     /// A new run begins behind so many rows.
