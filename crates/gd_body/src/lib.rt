@@ -18,5 +18,7 @@ mod taken;
 pub use body::body_of;
 pub use fault::BodyFault;
 pub use laws::{bumped_lines_rise, publishable_posting_reads_back};
+pub use question::write_question;
 pub use read::read_body;
 pub use spread::without_spread;
+pub use taken::{write_prices, write_schedule};

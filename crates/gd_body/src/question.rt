@@ -170,8 +170,8 @@ fn write_head(text: &mut String, question: &Question) -> Result<(), AllocError>
     write!(text, "question,{book},{cycle},{round},,,,\n")
 }
 
-/// Appends the rows of a pipeline and of the question about it.
-pub(crate) fn write_question(text: &mut String, question: &Question) -> Result<(), AllocError>
+/// Appends the rows of a pipeline and of the question about it. The only error is want of memory.
+pub fn write_question(text: &mut String, question: &Question) -> Result<(), AllocError>
     ensures { OnOk result (string_bytes text.new
         ≡ string_bytes text.old ++ spec.lines_of (spec.question_rows question.now)) }
 {

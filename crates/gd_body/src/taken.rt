@@ -16,8 +16,8 @@ use gd_system::{Element, System};
 use gd_units::{Class, Name};
 use std::alloc::AllocError;
 
-/// Appends the row of each line's quantity.
-fn write_schedule(text: &mut String, schedule: &Schedule) -> Result<(), AllocError>
+/// Appends the row of each line's quantity. The only error is want of memory.
+pub fn write_schedule(text: &mut String, schedule: &Schedule) -> Result<(), AllocError>
     ensures { OnOk result (string_bytes text.new
         ≡ string_bytes text.old ++ spec.lines_of (spec.sched_rows schedule.now)) }
 {
@@ -90,8 +90,9 @@ fn price(prices: &Prices<Tariff>, element: usize) -> Tariff
     prices.values()[element]
 }
 
-/// Appends the rows of all prices.
-fn write_prices(
+/// Appends the rows of all prices, by element and then by level, where one of the two words isn't 0. The only error is want of
+/// memory.
+pub fn write_prices(
     text: &mut String,
     system: &System,
     prices: &Prices<Tariff>,
