@@ -88,6 +88,9 @@ fn words_of(reply: &Reply) -> Option<&'static str> {
         Reply::Differs { .. } => Some(
             "the file was changed since it was written, or another program wrote it: the call that the row names gives other rows than the file says were told",
         ),
+        Reply::NeverFrozen => Some(
+            "the book was never frozen in this cycle, or not in this round of it: the frozen rows that were told name the rounds",
+        ),
         // What is told with what the text has, or with numbers.
         Reply::Fault(_)
         | Reply::OutOfRange
@@ -130,7 +133,8 @@ fn words_of(reply: &Reply) -> Option<&'static str> {
         | Reply::Audited(_)
         | Reply::Migrated(_)
         | Reply::Opened { .. }
-        | Reply::Replayed { .. } => None,
+        | Reply::Replayed { .. }
+        | Reply::Carry { .. } => None,
     }
 }
 

@@ -106,6 +106,9 @@ fields_of (reply.Replayed book calls events published) =
 fields_of (reply.Differs piece call) = codes "differs" ∷ decimal piece ∷ decimal call ∷ []
 fields_of reply.Busy = codes "fault" ∷ codes "0" ∷ codes "Busy" ∷ []
 fields_of (reply.Full n) = codes "fault" ∷ decimal n ∷ codes "TooLong" ∷ []
+fields_of reply.NeverFrozen = codes "refused" ∷ codes "question" ∷ codes "1" ∷ codes "NotFrozen" ∷ []
+fields_of (reply.Carry contract pack origin dest quantity) =
+    codes "carry" ∷ contract ∷ pack ∷ origin ∷ dest ∷ decimal quantity ∷ []
 
 -- the bytes of a reply
 abbrev pub line_of : Reply → List ℕ
