@@ -92,6 +92,15 @@ impl<'b> Replay<'b> {
         Ok(())
     }
 
+    /// The history of the book, all of it: each event is the machine's accepted step, and each certificate passed the check.
+    pub fn history(&self) -> &'b [(Event, Reply)]
+        ensures is { result.now ≡ self.now.history }
+        ensures legal { IsLegal self.now.day self.now.history }
+        ensures passed { AllPass self.now.history }
+    {
+        self.history
+    }
+
     /// The frozen question, if the cycle is frozen after the events behind the place.
     pub fn frozen(&self) -> Option<&Question>
         ensures { MatchOption result (is_frozen (take self.now.at self.now.history) ≡ false)
