@@ -1,0 +1,6 @@
+mod Answered
+mod Frozen
+mod InEffect
+mod Numbers
+mod Rows
+mod Search

@@ -1,0 +1,4 @@
+pub mod Rounds
+pub mod Outcomes
+pub mod Carried
+pub mod Schedules

@@ -1,0 +1,106 @@
+//! What a gas day carries over to the next.
+
+ghost use Rattle.std.specs.Prelude.{◌≡◌, ◌++◌, ◌∷◌, [], IfOk, OnOk};
+ghost use Rattle.gd_rules.specs.Lines.{lines_of};
+ghost use Rattle.gd_rules.specs.Schedule.{quantity};
+ghost use Rattle.gd_machine.specs.Asking.{nominations};
+ghost use Rattle.gd_machine.specs.Day.{Day};
+ghost use Rattle.gd_machine.specs.History.{History};
+ghost use Rattle.gd_machine.specs.Machine.{IsAccepted, IsLegal};
+ghost use Rattle.gd_rounds.specs.Carried as spec;
+ghost use Rattle.gd_rounds.specs.Schedules as schedules;
+
+use gd_book::{Event, Reply as BookReply};
+use gd_lines::LineKey;
+use gd_replies::Reply;
+use gd_units::Dth;
+use std::alloc::{AllocError, Global};
+
+/// Enters the line of an accepted nomination, if it is new.
+fn enter(keys: &mut Vec<LineKey>, event: &Event, reply: &BookReply) -> Result<(), AllocError>
+    ensures { OnOk result ((day : Day) (h : History)
+        → keys.old.items ≡ lines_of (nominations day h) → IsAccepted day h (event.now, reply.now)
+        → keys.new.items ≡ lines_of (nominations day (h ++ (event.now, reply.now) ∷ []))) }
+{
+    let Event::Nominate { key, .. } = event else {
+        return Ok(());
+    };
+    let BookReply::Accepted { line, .. } = reply else {
+        return Ok(());
+    };
+    if *line as usize == keys.len() {
+        keys.push(*key)?;
+    }
+    Ok(())
+}
+
+/// The lines of a history, by number.
+fn lines_in(alloc: Global, history: &[(Event, BookReply)]) -> Result<Vec<LineKey>, AllocError>
+    ensures { IfOk result (λ keys. (day : Day) → IsLegal day history.now
+        → keys.items ≡ lines_of (nominations day history.now)) }
+{
+    let mut keys = Vec::new(alloc);
+    'events: for event in history {
+        enter(&mut keys, &event.0, &event.1)?;
+    }
+    Ok(keys)
+}
+
+/// The quantities that an event publishes, or else the former ones.
+fn published_after<'h>(event: &'h Event, former: &'h [Dth]) -> &'h [Dth]
+    ensures { result.now ≡ schedules.published_after former.now event.now }
+{
+    match event {
+        Event::Publish { certificate, .. } => certificate.schedule().quantities(),
+        _ => former,
+    }
+}
+
+/// The quantities that were published last, none where no schedule was.
+fn last_published(history: &[(Event, BookReply)]) -> &[Dth]
+    ensures { result.now ≡ schedules.last_published history.now }
+{
+    let mut quantities: &[Dth] = &[];
+    'events: for event in history {
+        quantities = published_after(&event.0, quantities);
+    }
+    quantities
+}
+
+/// The quantity of a line, 0 where there is none.
+fn quantity_of(quantities: &[Dth], line: usize) -> Dth
+    ensures { result ≡ quantity quantities.now line }
+{
+    quantities.get(line).copied().unwrap_or(Dth::ZERO)
+}
+
+/// The row of a line.
+fn carry_row(key: &LineKey, quantity: Dth) -> Reply
+    ensures { result ≡ spec.carry_row key.now quantity }
+{
+    Reply::Carry {
+        contract: key.contract,
+        package: key.package,
+        origin: key.origin,
+        dest: key.dest,
+        quantity: quantity.get(),
+    }
+}
+
+/// Of each line of a legal history, in the order of their numbers, what it is carried over with to the next gas day: what it is
+/// scheduled by what was published last, and 0 where nothing was. The only error is want of memory.
+pub fn carry_replies(
+    alloc: Global,
+    history: &[(Event, BookReply)],
+) -> Result<Vec<Reply>, AllocError>
+    ensures { IfOk result (λ rows. (day : Day) → IsLegal day history.now
+        → rows.items ≡ spec.carry_rows day history.now) }
+{
+    let keys = lines_in(alloc, history)?;
+    let quantities = last_published(history);
+    let mut rows = Vec::with_capacity(alloc, keys.len())?;
+    'lines: for (line, key) in keys.iter().enumerate() {
+        rows.push(carry_row(key, quantity_of(quantities, line)))?;
+    }
+    Ok(rows)
+}

@@ -1,0 +1,80 @@
+//! Texts that say a frozen question, and what came of it.
+//!
+//! What is printed is read again, and nothing else of it is believed.
+
+ghost use Rattle.std.specs.Prelude.{IfOk, string_bytes};
+ghost use Rattle.gd_certificate.specs.Explained.{IsShaped};
+ghost use Rattle.gd_rounds.specs.Rounds.{Asks, Certifies, Refutes};
+
+use crate::read::{asks, certifies, refutes};
+use gd_body::{write_prices, write_question, write_schedule};
+use gd_certificate::{Checked, Cut};
+use gd_question::Question;
+use gd_replies::{Reply, cut_replies};
+use std::alloc::{AllocError, Global};
+
+/// The text of a question alone.
+pub(crate) fn question_text(alloc: Global, question: &Question) -> Result<String, AllocError>
+    ensures { IfOk result (λ text. Asks question.now (string_bytes text)) }
+{
+    let mut text = String::new(alloc);
+    write_question(&mut text, question)?;
+    if asks(alloc, text.as_bytes(), question) {
+        Ok(text)
+    } else {
+        Err(AllocError)
+    }
+}
+
+/// The rows of a certificate.
+fn write_certificate(text: &mut String, certificate: &Checked) -> Result<(), AllocError> {
+    write_question(text, certificate.question())?;
+    write_schedule(text, certificate.schedule())?;
+    write_prices(text, certificate.question().system(), certificate.prices())
+}
+
+/// The text of a question with a best schedule, and prices that show it.
+pub(crate) fn certificate_text(alloc: Global, certificate: &Checked) -> Result<String, AllocError>
+    ensures { IfOk result (λ text. Certifies certificate.now (string_bytes text)) }
+{
+    let mut text = String::new(alloc);
+    write_certificate(&mut text, certificate)?;
+    if certifies(alloc, text.as_bytes(), certificate) {
+        Ok(text)
+    } else {
+        Err(AllocError)
+    }
+}
+
+/// The rows of a set's members.
+fn write_members(
+    alloc: Global,
+    text: &mut String,
+    question: &Question,
+    cut: &Cut,
+) -> Result<(), AllocError>
+    requires { IsShaped question.now.pipeline cut.now }
+{
+    let rows = cut_replies(alloc, question, cut, 0)?;
+    'rows: for row in rows.as_slice() {
+        if let Reply::Inside(..) = *row {
+            write!(text, "{row}")?;
+        }
+    }
+    Ok(())
+}
+
+/// The text of a question with a set that shows that no schedule is allowed.
+pub(crate) fn cut_text(alloc: Global, question: &Question, cut: &Cut) -> Result<String, AllocError>
+    requires { IsShaped question.now.pipeline cut.now }
+    ensures { IfOk result (λ text. Refutes question.now cut.now (string_bytes text)) }
+{
+    let mut text = String::new(alloc);
+    write_question(&mut text, question)?;
+    write_members(alloc, &mut text, question, cut)?;
+    if refutes(alloc, text.as_bytes(), question, cut) {
+        Ok(text)
+    } else {
+        Err(AllocError)
+    }
+}
