@@ -21,18 +21,19 @@ _gasday() {
         *[\<\>]*) _gasday_files; return ;;
     esac
     if [ "$COMP_CWORD" -eq 1 ]; then
-        _gasday_words 'check solve calendar day office audit text migrate help --help --version'
+        _gasday_words 'check solve calendar day office audit text question carry migrate help --help --version'
         return
     fi
     case ${COMP_WORDS[1]}:$COMP_CWORD in
-        help:2) _gasday_words 'check solve calendar day office audit text migrate' ;;
+        help:2) _gasday_words 'check solve calendar day office audit text question carry migrate' ;;
         help:*) ;;
         check:2) _gasday_words 'allowed best cut --help' ;;
         day:*)
             [[ $before = --archive || $before = --book ]] || _gasday_words '--archive --book --help'
             _gasday_files
             ;;
-        check:* | solve:* | calendar:* | office:* | audit:2 | text:2 | migrate:2)
+        question:3) _gasday_words '1 2 3 4 5 --help' ;;
+        check:* | solve:* | calendar:* | office:* | audit:2 | text:2 | question:2 | carry:2 | migrate:2)
             _gasday_words '--help'
             _gasday_files
             ;;

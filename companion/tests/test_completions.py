@@ -23,10 +23,10 @@ class Completing(unittest.TestCase):
         return sorted(filter(None, done.stdout.split("\n")))
 
     def test_commands(self) -> None:
-        commands = ["audit", "calendar", "check", "day", "migrate", "office", "solve", "text"]
+        commands = ["audit", "calendar", "carry", "check", "day", "migrate", "office", "question", "solve", "text"]
         self.assertEqual(self.offers(""), sorted(["--help", "--version", "help", *commands]))
         self.assertEqual(self.offers("help", ""), commands)
-        self.assertEqual(self.offers("c"), ["calendar", "check"])
+        self.assertEqual(self.offers("c"), ["calendar", "carry", "check"])
         self.assertEqual(self.offers("-"), ["--help", "--version"])
         self.assertEqual(self.offers("x"), [])
         self.assertEqual(self.offers("help", "solve", ""), [])
@@ -50,12 +50,19 @@ class Completing(unittest.TestCase):
         self.assertEqual(self.offers("day", "--archive", "a"), ["a book.db"])
         self.assertEqual(self.offers("day", "--archive", "other.db", "t"), ["text.csv"])
 
-    def test_the_file_of_audit_text_and_migrate(self) -> None:
-        for command in ("audit", "text", "migrate"):
+    def test_the_file_of_audit_text_carry_and_migrate(self) -> None:
+        for command in ("audit", "text", "carry", "migrate"):
             self.assertEqual(self.offers(command, ""), ["--help", *FILES])
             self.assertEqual(self.offers(command, "o"), ["other.db"])
             self.assertEqual(self.offers(command, "--"), ["--help"])
             self.assertEqual(self.offers(command, "other.db", ""), [])
+
+    def test_the_file_and_the_cycle_of_a_question(self) -> None:
+        self.assertEqual(self.offers("question", ""), ["--help", *FILES])
+        self.assertEqual(self.offers("question", "o"), ["other.db"])
+        self.assertEqual(self.offers("question", "other.db", ""), ["--help", "1", "2", "3", "4", "5"])
+        self.assertEqual(self.offers("question", "other.db", "2"), ["2"])
+        self.assertEqual(self.offers("question", "other.db", "2", ""), [])
 
     def test_files_behind_a_redirection(self) -> None:
         self.assertEqual(self.offers("solve", "<", "t"), ["text.csv"])

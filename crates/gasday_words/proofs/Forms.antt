@@ -1,5 +1,7 @@
 -- The forms of the command line.
-use Rattle.std.proofs.Common.{All, drop, ◌≡◌, ◌==◌, ◌∙◌, ℕ, [], ◌∷◌, List, Bool, false, Option, Some, None, true, refl, sym, ap, subst, inl, inr, codes, is_some, map, Result, Ok, Err, IfOk, IfErr, OnOk}
+use Rattle.std.proofs.Common.{All, drop, ◌≡◌, ◌==◌, ◌∙◌, ◌⊎◌, ℕ, [], ◌∷◌, List, Bool, false, Option, Some, None, true, refl, sym, ap, subst, inl, inr, codes, is_some, map, Result, Ok, Err, IfOk, IfErr, OnOk}
+use Rattle.std.specs.Fmt.{decimal}
+use Rattle.std.specs.Option.{option_and_then, option_map}
 use Rattle.std.proofs.lemmas.Option.{same_Some}
 use Rattle.std.proofs.lemmas.List.Elements.{All-nil, All-cons}
 use Rattle.clap.specs.Words.{App, IsAmong, Kinds, Row, Shape, Text, is_simple, is_simple_and_free, takes, fault_of}
@@ -16,10 +18,11 @@ use Rattle.gasday_words.specs.declared.order.Command.TheVariants.{CheckAllowed, 
 use Rattle.gasday_words.specs.Ordered as ordered
 use Rattle.gasday_words.specs.Ordered.{Ordered, Requested, requested, without_texts}
 use Rattle.gasday_words.specs.Meaning as spec
-use Rattle.gasday_words.specs.Meaning.{gasday, meaning_of, arguments, forms, forms_with, day_forms_with, clashes, helps, versions, request_from, request_in}
-use Rattle.gasday_words.specs.Outcomes.{IsHelp, IsRequest, IsTold, IsUsageAnswer, IsVersion, RefusesClashes, TakesDays, TakesFiles, TakesForm, TakesForms, TakesHelps, TakesOver, TakesTexts, TakesVersions}
+use Rattle.gasday_words.specs.Meaning.{gasday, meaning_of, arguments, cycle_named, cycles, forms, forms_with, day_forms_with, clashes, helps, round_named, versions, request_from, request_in}
+use Rattle.gasday_words.specs.Outcomes.{IsHelp, IsRequest, IsTold, IsUsageAnswer, IsVersion, RefusesClashes, RefusesNumbers, TakesDays, TakesFiles, TakesForm, TakesForms, TakesHelps, TakesOver, TakesRounds, TakesTexts, TakesVersions}
 use Rattle.gasday_words.proofs.Entering.{Meets, left_to}
-use Rattle.gasday_words.proofs.Plain.{Word, fault_is, faults, known, level, level_is, named, rows, rows_are, text_of}
+use Rattle.gasday_words.proofs.Plain.{Word, fault_is, faults, known, level, level_is, named, plain, rows, rows_are, text_of}
+use Rattle.gasday_words.proofs.Rounds.{decimal_is_plain, decimal_names}
 
 pub is_simple_gasday : is_simple gasday ≡ true
 unfolding clap_on_literals
@@ -70,6 +73,14 @@ audit = record { stops = refl; passes = refl; faultless = refl; found = refl }
 book_text : IsNameOf (codes "text") spec.book_text
 unfolding clap_on_literals
 book_text = record { stops = refl; passes = refl; faultless = refl; found = refl }
+
+question : IsNameOf (codes "question") spec.question
+unfolding clap_on_literals
+question = record { stops = refl; passes = refl; faultless = refl; found = refl }
+
+carry : IsNameOf (codes "carry") spec.carry
+unfolding clap_on_literals
+carry = record { stops = refl; passes = refl; faultless = refl; found = refl }
 
 migrate : IsNameOf (codes "migrate") spec.migrate
 unfolding clap_on_literals
@@ -242,8 +253,14 @@ takes_files words r by a rest other =
     (All-cons P _ (drop 2 (forms_with file)) (λ h. is (codes "day") spec.day day (known (codes "--book") ∷ F ∷ []) refl h (without_texts (ordered.LiveDay file)) refl)
     (All-cons P _ (drop 3 (forms_with file)) (λ h. is (codes "audit") spec.audit audit (F ∷ []) refl h (without_texts (ordered.Audit file)) refl)
     (All-cons P _ (drop 4 (forms_with file)) (λ h. is (codes "text") spec.book_text book_text (F ∷ []) refl h (without_texts (ordered.BookText file)) refl)
-    (All-cons P _ (drop 5 (forms_with file)) (λ h. is (codes "migrate") spec.migrate migrate (F ∷ []) refl h (without_texts (ordered.Migrate file)) refl)
-    (All-nil P)))))
+    (All-cons P _ (drop 5 (forms_with file)) (λ h. is (codes "question") spec.question question (F ∷ known (codes "1") ∷ []) refl h (without_texts (ordered.Question file 1 None)) refl)
+    (All-cons P _ (drop 6 (forms_with file)) (λ h. is (codes "question") spec.question question (F ∷ known (codes "2") ∷ []) refl h (without_texts (ordered.Question file 2 None)) refl)
+    (All-cons P _ (drop 7 (forms_with file)) (λ h. is (codes "question") spec.question question (F ∷ known (codes "3") ∷ []) refl h (without_texts (ordered.Question file 3 None)) refl)
+    (All-cons P _ (drop 8 (forms_with file)) (λ h. is (codes "question") spec.question question (F ∷ known (codes "4") ∷ []) refl h (without_texts (ordered.Question file 4 None)) refl)
+    (All-cons P _ (drop 9 (forms_with file)) (λ h. is (codes "question") spec.question question (F ∷ known (codes "5") ∷ []) refl h (without_texts (ordered.Question file 5 None)) refl)
+    (All-cons P _ (drop 10 (forms_with file)) (λ h. is (codes "carry") spec.carry carry (F ∷ []) refl h (without_texts (ordered.Carry file)) refl)
+    (All-cons P _ (drop 11 (forms_with file)) (λ h. is (codes "migrate") spec.migrate migrate (F ∷ []) refl h (without_texts (ordered.Migrate file)) refl)
+    (All-nil P)))))))))))
 
 -- words of each form of a gas day that names a file, with the names of one or two files behind them, are answered by its order
 -- over these files
@@ -264,6 +281,48 @@ takes_days words r by c file filed a b rest others other another =
       All-cons (P two) _ (drop 1 days) (λ h. is (codes "day") spec.day day (known (codes "--archive") ∷ F ∷ A ∷ B ∷ []) refl h (over (ordered.ArchivedDay (c ∷ file)) (A ∷ B ∷ [])) refl)
           (All-cons (P two) _ (drop 2 days) (λ h. is (codes "day") spec.day day (known (codes "--book") ∷ F ∷ A ∷ B ∷ []) refl h (over (ordered.LiveDay (c ∷ file)) (A ∷ B ∷ [])) refl)
           (All-nil (P two))),
+    )
+
+-- the request that an order alone makes, where there is one
+abbrev alone_in : Option Ordered → Option Requested
+alone_in = option_map (λ o. without_texts o)
+
+-- words that name a question by a cycle and a round are answered by its order
+pub takes_rounds : (words : List Text) (r : Result Request UsageFault) → IsClaps words r → TakesRounds words r
+unfolding clap_on_literals
+takes_rounds words r by a rest other n low high =
+    let file = a ∷ rest in
+    let P : Text × ℕ → Type 0 = λ cycle. arguments words ≡ codes "question" ∷ file ∷ cycle.0 ∷ decimal n ∷ []
+    → IsRequest (without_texts (ordered.Question file cycle.1 (Some n))) r in
+    let F = named a rest other in
+    let R = plain (decimal n) (decimal_is_plain n low high) in
+    let asks = λ (cycle : ℕ). ap (λ (round : Option ℕ). alone_in (option_map (λ k. ordered.Question file cycle (Some k)) round)) (decimal_names n low high) in
+    let is = answered_by words r by (codes "question") spec.question question in
+    All-cons P _ (drop 1 cycles) (λ h. is (F ∷ known (codes "1") ∷ R ∷ []) refl h (without_texts (ordered.Question file 1 (Some n))) (asks 1))
+    (All-cons P _ (drop 2 cycles) (λ h. is (F ∷ known (codes "2") ∷ R ∷ []) refl h (without_texts (ordered.Question file 2 (Some n))) (asks 2))
+    (All-cons P _ (drop 3 cycles) (λ h. is (F ∷ known (codes "3") ∷ R ∷ []) refl h (without_texts (ordered.Question file 3 (Some n))) (asks 3))
+    (All-cons P _ (drop 4 cycles) (λ h. is (F ∷ known (codes "4") ∷ R ∷ []) refl h (without_texts (ordered.Question file 4 (Some n))) (asks 4))
+    (All-cons P _ (drop 5 cycles) (λ h. is (F ∷ known (codes "5") ∷ R ∷ []) refl h (without_texts (ordered.Question file 5 (Some n))) (asks 5))
+    (All-nil P)))))
+
+-- what names no cycle, or no round, names no question
+no_question : (file : Text) (cycle round : Option ℕ) → (cycle ≡ None) ⊎ (round ≡ None)
+    → option_and_then (λ c. option_map (λ k. ordered.Question file c (Some k)) round) cycle ≡ None
+no_question file None round none = refl
+no_question file (Some c) None none = refl
+no_question file (Some c) (Some k) (inl none) = cc
+no_question file (Some c) (Some k) (inr none) = cc
+
+-- words that name a question by a word that is no cycle, or by one that is no round, are answered by a usage fault
+pub refuses_numbers : (words : List Text) (r : Result Request UsageFault) → IsClaps words r → RefusesNumbers words r
+unfolding clap_on_literals
+refuses_numbers words r by a b c file cycle round other another third =
+    let F = named a file other in
+    let C = named b cycle another in
+    let R = named c round third in
+    let is = refused words r by (codes "question") spec.question question in (
+      (λ none h. is (F ∷ C ∷ []) refl h refl (ap (λ (found : Option ℕ). alone_in (option_map (λ k. ordered.Question (a ∷ file) k None) found)) none)),
+      λ none h. is (F ∷ C ∷ R ∷ []) refl h refl (ap alone_in (no_question (a ∷ file) (cycle_named (b ∷ cycle)) (round_named (c ∷ round)) none)),
     )
 
 -- words of each form that names two files for one gas day are answered by a usage fault
@@ -294,8 +353,10 @@ takes_helps words r by =
     (All-cons P _ (drop 7 helps) (is (codes "office") spec.office office refl)
     (All-cons P _ (drop 8 helps) (is (codes "audit") spec.audit audit refl)
     (All-cons P _ (drop 9 helps) (is (codes "text") spec.book_text book_text refl)
-    (All-cons P _ (drop 10 helps) (is (codes "migrate") spec.migrate migrate refl)
-    (All-nil P))))))))))
+    (All-cons P _ (drop 10 helps) (is (codes "question") spec.question question refl)
+    (All-cons P _ (drop 11 helps) (is (codes "carry") spec.carry carry refl)
+    (All-cons P _ (drop 12 helps) (is (codes "migrate") spec.migrate migrate refl)
+    (All-nil P))))))))))))
 
 -- words of each form that asks for the version are answered by the version
 pub takes_versions : (words : List Text) (r : Result Request UsageFault) → IsClaps words r → TakesVersions words r

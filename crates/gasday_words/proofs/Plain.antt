@@ -27,12 +27,16 @@ abbrev pub text_of : Word → Text
 text_of (known word) = word
 text_of (plain word is_plain) = word
 
--- any word that doesn't begin with this byte
-abbrev pub named : (a : ℕ) (rest : List ℕ) → (a == 45) ≡ false → Word
-named a rest other = plain (a ∷ rest) (record {
+-- a word that begins with another byte
+abbrev pub begins_otherwise : (a : ℕ) (rest : List ℕ) → (a == 45) ≡ false → IsPlain (a ∷ rest)
+begins_otherwise a rest other = record {
   dashes = ap (λ (b : Bool). b && bytes_eq rest (45 ∷ [])) other;
   hyphen = ap (λ (b : Bool). cond b (Some rest) None) other;
-})
+}
+
+-- any word that doesn't begin with this byte
+abbrev pub named : (a : ℕ) (rest : List ℕ) → (a == 45) ≡ false → Word
+named a rest other = plain (a ∷ rest) (begins_otherwise a rest other)
 
 -- what a plain word is met as
 abbrev met : Shape → Walk → Text → Held × Step

@@ -1,11 +1,13 @@
 -- The command line of the program, and what its words mean.
-use Rattle.std.specs.Prelude.{true, List, [], ◌∷◌, Option, Some, None, option_map, unwrap_or, drop, codes, if◌then◌else◌}
+use Rattle.std.specs.Prelude.{ℕ, true, List, [], ◌∷◌, Option, Some, None, option_map, option_and_then, unwrap_or, drop, codes, if◌then◌else◌}
 use Rattle.std.specs.Str.{bytes_eq}
+use Rattle.std.specs.Str.Parse.{digits_value, without_leading_plus}
 use Rattle.gasday_words.specs.declared.order.Command.{Command}
 use Rattle.gasday_words.specs.declared.order.Command.TheVariants.{CheckAllowed, CheckBest, CheckCut, Solve, Calendar, Day, Office}
 use Rattle.gasday_words.specs.Ordered as ordered
 use Rattle.gasday_words.specs.Ordered.{Ordered, Requested, without_texts}
 use Rattle.clap.specs.Lexer.{usize_max}
+use Rattle.clap.specs.ValueTests.{is_unsigned_in}
 use Rattle.clap.specs.Words.{App, Row, Rule, Text, all_of, first_of, new_app, new_rule, subcommand_of, with_rule, with_subcommand}
 use Rattle.clap.specs.declared.builder.action.ArgAction.TheVariants.{Append}
 
@@ -18,6 +20,14 @@ what = record (new_rule (codes "what")) { value_names = 1; required = true }
 -- FILE, one word that has to be there
 abbrev pub file : Rule
 file = record (new_rule (codes "file")) { value_names = 1; required = true }
+
+-- CYCLE, one word that has to be there
+abbrev pub cycle : Rule
+cycle = record (new_rule (codes "cycle")) { value_names = 1; required = true }
+
+-- ROUND, one word that may be left out
+abbrev pub round : Rule
+round = record (new_rule (codes "round")) { value_names = 1 }
 
 -- TEXT, any number of words
 abbrev pub texts : Rule
@@ -63,6 +73,14 @@ audit = with_rule (new_app (codes "audit")) file
 abbrev pub book_text : App
 book_text = with_rule (new_app (codes "text")) file
 
+-- `question FILE CYCLE [ROUND]`
+abbrev pub question : App
+question = with_rule (with_rule (with_rule (new_app (codes "question")) file) cycle) round
+
+-- `carry FILE`
+abbrev pub carry : App
+carry = with_rule (new_app (codes "carry")) file
+
 -- `migrate FILE`
 abbrev pub migrate : App
 migrate = with_rule (new_app (codes "migrate")) file
@@ -83,7 +101,9 @@ with_texts =
 
 -- the program's command line
 abbrev pub gasday : App
-gasday = with_subcommand (with_subcommand (with_subcommand with_texts audit.top) book_text.top) migrate.top
+gasday =
+    with_subcommand (with_subcommand (with_subcommand (with_subcommand (with_subcommand with_texts audit.top) book_text.top) question.top) carry.top)
+    migrate.top
 
 -- ---- the meaning of words
 
@@ -103,6 +123,35 @@ day_kept_in (Some name) None = Some (ordered.ArchivedDay name)
 day_kept_in None (Some name) = Some (ordered.LiveDay name)
 day_kept_in (Some name) (Some other) = None
 
+-- the cycle that a word names
+abbrev pub cycle_named : Text → Option ℕ
+cycle_named word =
+    if bytes_eq word (codes "1") then Some 1
+    else if bytes_eq word (codes "2") then Some 2
+    else if bytes_eq word (codes "3") then Some 3
+    else if bytes_eq word (codes "4") then Some 4
+    else if bytes_eq word (codes "5") then Some 5
+    else None
+
+-- the greatest round
+abbrev pub most_rounds : ℕ
+most_rounds = 1_000_000
+
+-- the round that a word names, which is a number as clap reads one: decimal digits, before which a plus may stand
+abbrev pub round_named : Text → Option ℕ
+round_named word = if is_unsigned_in 1 most_rounds word then Some (digits_value 10 (without_leading_plus word)) else None
+
+-- the frozen question of this file, in the cycle and the round that the words name; without a round it is the last one
+abbrev pub question_of : Option Text → Option Text → Option Text → Option Ordered
+question_of (Some file) (Some cycle) None = option_map (λ c. ordered.Question file c None) (cycle_named cycle)
+question_of (Some file) (Some cycle) (Some round) =
+    option_and_then (λ c. option_map (λ r. ordered.Question file c (Some r)) (round_named round)) (cycle_named cycle)
+question_of _ _ _ = None
+
+-- the same, of what `question` was given
+abbrev pub question_in : List Row → Option Ordered
+question_in given = question_of (first_of (codes "file") given) (first_of (codes "cycle") given) (first_of (codes "round") given)
+
 -- the order of a subcommand's name and of what it was given
 abbrev pub order_from : Text → List Row → Option Ordered
 order_from name given =
@@ -113,6 +162,8 @@ order_from name given =
     else if bytes_eq name (codes "office") then Some (ordered.Text Office)
     else if bytes_eq name (codes "audit") then option_map ordered.Audit (first_of (codes "file") given)
     else if bytes_eq name (codes "text") then option_map ordered.BookText (first_of (codes "file") given)
+    else if bytes_eq name (codes "question") then question_in given
+    else if bytes_eq name (codes "carry") then option_map ordered.Carry (first_of (codes "file") given)
     else if bytes_eq name (codes "migrate") then option_map ordered.Migrate (first_of (codes "file") given)
     else None
 
@@ -157,8 +208,18 @@ forms_with file =
     ∷ (codes "day" ∷ codes "--book" ∷ file ∷ [], ordered.LiveDay file)
     ∷ (codes "audit" ∷ file ∷ [], ordered.Audit file)
     ∷ (codes "text" ∷ file ∷ [], ordered.BookText file)
+    ∷ (codes "question" ∷ file ∷ codes "1" ∷ [], ordered.Question file 1 None)
+    ∷ (codes "question" ∷ file ∷ codes "2" ∷ [], ordered.Question file 2 None)
+    ∷ (codes "question" ∷ file ∷ codes "3" ∷ [], ordered.Question file 3 None)
+    ∷ (codes "question" ∷ file ∷ codes "4" ∷ [], ordered.Question file 4 None)
+    ∷ (codes "question" ∷ file ∷ codes "5" ∷ [], ordered.Question file 5 None)
+    ∷ (codes "carry" ∷ file ∷ [], ordered.Carry file)
     ∷ (codes "migrate" ∷ file ∷ [], ordered.Migrate file)
     ∷ []
+
+-- the words that name cycles, and the cycles
+abbrev pub cycles : List (Text × ℕ)
+cycles = (codes "1", 1) ∷ (codes "2", 2) ∷ (codes "3", 3) ∷ (codes "4", 4) ∷ (codes "5", 5) ∷ []
 
 -- the forms of a gas day that name this file, with which texts may stand: the words behind the program's name, and the order
 -- that they are
@@ -187,6 +248,8 @@ helps =
     ∷ (codes "office" ∷ codes "--help" ∷ [])
     ∷ (codes "audit" ∷ codes "--help" ∷ [])
     ∷ (codes "text" ∷ codes "--help" ∷ [])
+    ∷ (codes "question" ∷ codes "--help" ∷ [])
+    ∷ (codes "carry" ∷ codes "--help" ∷ [])
     ∷ (codes "migrate" ∷ codes "--help" ∷ [])
     ∷ []
 

@@ -1,5 +1,5 @@
 -- What a clause sees of a request.
-use Rattle.std.specs.Prelude.{ℕ, List, [], map}
+use Rattle.std.specs.Prelude.{ℕ, List, [], Option, map}
 use Rattle.gasday_words.specs.declared.order.Command.{Command}
 use Rattle.gasday_words.specs.declared.order.Order.{Order}
 use Rattle.gasday_words.specs.declared.order.Order.TheVariants as order
@@ -12,6 +12,9 @@ pub data Ordered : Type 0 where
   LiveDay : List ℕ → Ordered
   BookText : List ℕ → Ordered
   Audit : List ℕ → Ordered
+  -- with its cycle, and its round where one is named
+  Question : List ℕ → ℕ → Option ℕ → Ordered
+  Carry : List ℕ → Ordered
   Migrate : List ℕ → Ordered
 
 -- an order as a clause sees it
@@ -21,6 +24,8 @@ seen (order.ArchivedDay file) = ArchivedDay file.now
 seen (order.LiveDay file) = LiveDay file.now
 seen (order.BookText file) = BookText file.now
 seen (order.Audit file) = Audit file.now
+seen (order.Question file cycle round) = Question file.now cycle round
+seen (order.Carry file) = Carry file.now
 seen (order.Migrate file) = Migrate file.now
 
 -- an order, with the files that make up its text

@@ -1,5 +1,6 @@
 -- What is told of words.
-use Rattle.std.specs.Prelude.{All, ◌≡◌, ◌≢◌, ◌==◌, ◌++◌, ℕ, false, List, [], ◌∷◌, Option, None, Result, MatchResult, ⊤, ◌⊎◌}
+use Rattle.std.specs.Prelude.{All, ◌≡◌, ◌≢◌, ◌==◌, ◌≤◌, ◌++◌, ℕ, false, List, [], ◌∷◌, Option, None, Some, Result, MatchResult, codes, ⊤, ◌⊎◌}
+use Rattle.std.specs.Fmt.{decimal}
 use Rattle.clap.specs.Words.{IsAmong, Kinds, Text, fault_of}
 use Rattle.clap.specs.declared.error.kind.ErrorKind.{ErrorKind}
 use Rattle.clap.specs.declared.error.kind.ErrorKind.TheVariants as kind
@@ -10,7 +11,7 @@ use Rattle.gasday_words.specs.declared.fault.UsageFault.{UsageFault}
 use Rattle.gasday_words.specs.declared.fault.UsageFault.TheVariants.{Help, Version, Usage, OutOfMemory}
 use Rattle.gasday_words.specs.Ordered as ordered
 use Rattle.gasday_words.specs.Ordered.{Ordered, Requested, requested, without_texts}
-use Rattle.gasday_words.specs.Meaning.{gasday, meaning_of, arguments, forms, forms_with, day_forms_with, clashes, helps, versions}
+use Rattle.gasday_words.specs.Meaning.{gasday, meaning_of, arguments, cycle_named, cycles, forms, forms_with, day_forms_with, clashes, helps, most_rounds, round_named, versions}
 
 -- what is left of a request where clap finds these kinds of fault in the words
 abbrev pub unless_at_fault : Kinds → Option Requested → Option Requested
@@ -125,6 +126,22 @@ abbrev pub RefusesClashes : List Text → Result Request UsageFault → Type 0
 RefusesClashes words r =
     (a b : ℕ) (rest others : List ℕ) → (a == hyphen) ≡ false → (b == hyphen) ≡ false
     → All (λ form. arguments words ≡ form → IsUsageAnswer r) (clashes (a ∷ rest) (b ∷ others))
+
+-- words that name a question by a cycle and by a round in decimal, whichever they are, are taken as its order, whatever the file
+abbrev pub TakesRounds : List Text → Result Request UsageFault → Type 0
+TakesRounds words r =
+    (b : ℕ) (rest : List ℕ) → (b == hyphen) ≡ false → (n : ℕ) → 1 ≤ n → n ≤ most_rounds
+    → All (λ cycle. arguments words ≡ codes "question" ∷ (b ∷ rest) ∷ cycle.0 ∷ decimal n ∷ []
+    → IsRequest (without_texts (ordered.Question (b ∷ rest) cycle.1 (Some n))) r) cycles
+
+-- words that name a question by a word that is no cycle, or behind it by one that is no round, are a usage fault, whatever the
+-- file
+abbrev pub RefusesNumbers : List Text → Result Request UsageFault → Type 0
+RefusesNumbers words r =
+    (a b c : ℕ) (file cycle round : List ℕ) → (a == hyphen) ≡ false → (b == hyphen) ≡ false → (c == hyphen) ≡ false
+    → (cycle_named (b ∷ cycle) ≡ None → arguments words ≡ codes "question" ∷ (a ∷ file) ∷ (b ∷ cycle) ∷ [] → IsUsageAnswer r)
+    × ((cycle_named (b ∷ cycle) ≡ None) ⊎ (round_named (c ∷ round) ≡ None)
+    → arguments words ≡ codes "question" ∷ (a ∷ file) ∷ (b ∷ cycle) ∷ (c ∷ round) ∷ [] → IsUsageAnswer r)
 
 -- words of each form that asks for help are answered by help
 abbrev pub TakesHelps : List Text → Result Request UsageFault → Type 0

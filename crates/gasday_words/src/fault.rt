@@ -3,6 +3,7 @@
 ghost use Rattle.clap.specs.Words.{kind_of};
 ghost use Rattle.gasday_words.specs.Outcomes.{IsTelling, IsUsage};
 
+use crate::order::NoOrder;
 use clap::error::ErrorKind;
 use std::alloc::{AllocError, Global};
 use thiserror::Error;
@@ -40,25 +41,36 @@ pub(crate) fn fault_of(alloc: Global, error: &clap::Error) -> UsageFault
     }
 }
 
-fn text_of_unknown_check(alloc: Global, word: &str) -> Result<String, AllocError> {
+/// What is told of a word that is no value of this argument, as clap words it; `values` is a line that names those that are.
+fn text_of_no_value(
+    alloc: Global,
+    word: &str,
+    argument: &str,
+    values: &str,
+) -> Result<String, AllocError> {
     format!(in alloc;
-        "error: invalid value '{word}' for '<WHAT>'\n  [possible values: allowed, best, cut]\n\n\
+        "error: invalid value '{word}' for '{argument}'\n{values}\n\
          For more information, try '--help'.\n"
     )
 }
+
+const CHECKS: &str = "  [possible values: allowed, best, cut]\n";
+
+const CYCLES: &str = "  [possible values: 1, 2, 3, 4, 5]\n";
 
 /// What is told of two options that exclude each other.
 const CLASH: &str = "error: '--book' can't be used with '--archive'\n\n\
      For more information, try '--help'.\n";
 
-/// `check` was given this word, and there is no such check; or, without a word, `day` was given both an archive and a book's
-/// file.
-pub(crate) fn no_order(alloc: Global, word_after_check: Option<&str>) -> UsageFault
+/// What to tell of words that clap took, and that name no order.
+pub(crate) fn no_order(alloc: Global, why: NoOrder<'_>) -> UsageFault
     ensures { IsUsage result }
 {
-    let text = match word_after_check {
-        Some(word) => text_of_unknown_check(alloc, word),
-        None => String::from_str(alloc, CLASH),
+    let text = match why {
+        NoOrder::Check(word) => text_of_no_value(alloc, word, "<WHAT>", CHECKS),
+        NoOrder::Cycle(word) => text_of_no_value(alloc, word, "<CYCLE>", CYCLES),
+        NoOrder::Round(word) => text_of_no_value(alloc, word, "[ROUND]", ""),
+        NoOrder::BothFiles => String::from_str(alloc, CLASH),
     };
     match text {
         Ok(text) => UsageFault::Usage(text),

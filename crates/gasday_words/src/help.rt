@@ -30,7 +30,8 @@ Exit status:
   1                   A schedule, a price or a cut is broken; no schedule is allowed (solve); a gas
                       day has no calendar; an office's receipts don't fit its books; a posting was
                       kept before; an archive is unsound, or isn't of version 1 when it is migrated;
-                      a row was faulty (day --book); a book's file isn't what was told.
+                      a row was faulty (day --book); a book's file isn't what was told; the book was
+                      never frozen in the round that is asked for (question).
   2                   A fault of the command line, the text, reading, writing, the archive, the
                       book's file, the memory or the threads.
 
@@ -73,8 +74,8 @@ Stage 4:
       Another capacity of a segment or point in this question (check and solve). Example:
       capacity,S1,80,,,,,
   carry,CONTRACT,PACKAGE,ORIGIN,DEST,QUANTITY
-      What a line was scheduled the gas day before (day and office). Example:
-      carry,FIRM,P,R1,D1,80,,
+      What a line was scheduled the gas day before (day and office), as gasday carry prints it.
+      Example: carry,FIRM,P,R1,D1,80,,
 
 Stage 5:
   line,ORIGIN,DEST,CLASS,FLOOR,CEILING
@@ -475,6 +476,59 @@ and a file of a text is made by
 
 Example:
   gasday text 0308.book";
+
+/// What stands under the help of `question`.
+pub(crate) const SHORT_OF_QUESTION: &str = "Examples:
+  gasday question 0308.book 2
+  gasday question examples/gas-day/two-cycles.csv 1 1 | gasday check best
+
+'gasday question --help' tells more.";
+
+/// What stands under the long help of `question`.
+pub(crate) const LONG_OF_QUESTION: &str =
+    "It makes the calls of a gas day, and prints the question that the book was frozen with in a round of
+CYCLE. FILE is the text of the gas day, as day takes it, or the file of a book that day --book serves.
+ROUND is the one that the frozen row tells, which counts the freezes of the gas day; without it the last
+round of CYCLE is meant.
+
+It prints segment, point, pool, question, capacity and line rows; and behind them
+  sched,LINE,QUANTITY
+  price,NAME,LEVEL,WORD,SPREAD
+where a schedule was published for this question, or
+  inside,KIND,NAME
+where it was declared to have none that is allowed. So check best takes the former text, and check cut the
+latter. Where neither was told there are no such rows, and solve takes the text.
+
+Where the book was never frozen so it prints
+  refused,question,1,NotFrozen
+  NotFrozen           The book was never frozen in this cycle, or not in this round of it. The frozen
+                      rows that were told name the rounds. Status 1.
+What is wrong with FILE is told as day tells it of a text, and as audit does of a book's file.
+It reads nothing from standard input.
+
+Examples:
+  gasday question 0308.book 2
+  gasday question examples/gas-day/two-cycles.csv 1 1 | gasday check best";
+
+/// What stands under the help of `carry`.
+pub(crate) const SHORT_OF_CARRY: &str = "Example:
+  gasday carry 0308.book > carry.csv
+
+'gasday carry --help' tells more.";
+
+/// What stands under the long help of `carry`.
+pub(crate) const LONG_OF_CARRY: &str =
+    "It makes the calls of a gas day, and prints of each line the row
+  carry,CONTRACT,PACKAGE,ORIGIN,DEST,QUANTITY
+that stands behind the day row in the text of the next gas day. QUANTITY is what the line is scheduled by
+what was published last, and 0 where nothing was. FILE is the text of the gas day, as day takes it, or the
+file of a book that day --book serves. What is wrong with FILE is told as day tells it of a text, and as
+audit does of a book's file.
+It reads nothing from standard input.
+
+Example:
+  gasday carry 0308.book > carry.csv
+  gasday day pipeline.csv contracts.csv day.csv carry.csv calls.csv";
 
 /// What stands under the help of `migrate`.
 pub(crate) const SHORT_OF_MIGRATE: &str = "Example:

@@ -12,6 +12,8 @@ use std::alloc::{AllocError, Global};
 /// The version of the program, and of the logic in which it is proved, which several kits share.
 const VERSION: &str = "1.0.0 (proved in Rattle's logic dac8208d650f15bf)";
 
+const NAME: &str = "gasday";
+
 const ABOUT: &str = "The scheduling office of one gas pipeline.
 
 It reads rows of eight comma-separated fields from files or from standard input, and prints
@@ -250,6 +252,71 @@ fn book_text<'a>(alloc: Global) -> Result<CommandLine<'a>, AllocError>
     .arg(file(alloc, FILE_OF_TEXT))
 }
 
+const HELP_OF_CYCLE: &str = "the cycle: 1 Timely, 2 Evening, 3 to 5 Intraday 1 to 3";
+
+/// CYCLE, one word that has to be there. The program tells the cycles apart itself, as it does the checks.
+fn cycle<'a>(alloc: Global) -> Arg<'a>
+    ensures rule { rule_of result ≡ spec.cycle }
+    ensures local { result.global ≡ false }
+{
+    Arg::new(alloc, "cycle")
+        .value_name("CYCLE")
+        .required(true)
+        .help(HELP_OF_CYCLE)
+}
+
+const HELP_OF_ROUND: &str =
+    "the round, 1 to 1,000,000, as a frozen row tells it; without it the cycle's last one";
+
+/// ROUND, one word that may be left out.
+fn round<'a>(alloc: Global) -> Arg<'a>
+    ensures rule { rule_of result ≡ spec.round }
+    ensures local { result.global ≡ false }
+{
+    Arg::new(alloc, "round")
+        .value_name("ROUND")
+        .help(HELP_OF_ROUND)
+}
+
+const ABOUT_QUESTION: &str =
+    "Prints the frozen question of a round of a gas day, with what came of it";
+
+const FILE_OF_A_DAY: &str = "the text of a gas day, or a book's file, a SQLite database";
+
+/// `question FILE CYCLE [ROUND]`.
+fn question<'a>(alloc: Global) -> Result<CommandLine<'a>, AllocError>
+    ensures app { IfOk result (λ c. app_of c ≡ spec.question) }
+    ensures local { IfOk result (λ c. (out-Command c).has_globals ≡ false) }
+{
+    command(
+        alloc,
+        "question",
+        ABOUT_QUESTION,
+        help::SHORT_OF_QUESTION,
+        help::LONG_OF_QUESTION,
+    )
+    .arg(file(alloc, FILE_OF_A_DAY))?
+    .arg(cycle(alloc))?
+    .arg(round(alloc))
+}
+
+const ABOUT_CARRY: &str = "Prints the carry rows of the next gas day";
+
+/// `carry FILE`.
+fn carry<'a>(alloc: Global) -> Result<CommandLine<'a>, AllocError>
+    ensures app { IfOk result (λ c. app_of c ≡ spec.carry) }
+    ensures local { IfOk result (λ c. (out-Command c).has_globals ≡ false) }
+{
+    command(
+        alloc,
+        "carry",
+        ABOUT_CARRY,
+        help::SHORT_OF_CARRY,
+        help::LONG_OF_CARRY,
+    )
+    .arg(file(alloc, FILE_OF_A_DAY))
+}
+
 const ABOUT_MIGRATE: &str = "Brings an archive of version 1 to version 2";
 
 const FILE_OF_MIGRATE: &str = "the archive, a SQLite database";
@@ -269,18 +336,23 @@ fn migrate<'a>(alloc: Global) -> Result<CommandLine<'a>, AllocError>
     .arg(file(alloc, FILE_OF_MIGRATE))
 }
 
-/// The program's name, before it has commands.
-fn bare<'a>(alloc: Global) -> CommandLine<'a>
-    ensures { app_of result ≡ spec.bare }
+/// The program's name, before it has commands. Usage tells this name, whatever the first word is.
+fn bare<'a>(alloc: Global) -> Result<CommandLine<'a>, AllocError>
+    ensures { IfOk result (λ c. app_of c ≡ spec.bare) }
 {
-    command(alloc, "gasday", ABOUT, help::SHORT, help::LONG).version(VERSION)
+    command(alloc, NAME, ABOUT, help::SHORT, help::LONG)
+        .version(VERSION)
+        .bin_name(NAME)
 }
 
 /// The program with the commands that take a text.
 fn with_texts<'a>(alloc: Global) -> Result<CommandLine<'a>, AllocError>
     ensures { IfOk result (λ c. app_of c ≡ spec.with_texts) }
 {
-    let Ok(with_check) = with_command(bare(alloc), check(alloc)) else {
+    let Ok(bare) = bare(alloc) else {
+        return Err(AllocError);
+    };
+    let Ok(with_check) = with_command(bare, check(alloc)) else {
         return Err(AllocError);
     };
     let Ok(with_solve) = with_command(with_check, solve(alloc)) else {
@@ -308,5 +380,11 @@ pub(crate) fn gasday<'a>(alloc: Global) -> Result<CommandLine<'a>, AllocError>
     let Ok(with_text) = with_command(with_audit, book_text(alloc)) else {
         return Err(AllocError);
     };
-    with_command(with_text, migrate(alloc))
+    let Ok(with_question) = with_command(with_text, question(alloc)) else {
+        return Err(AllocError);
+    };
+    let Ok(with_carry) = with_command(with_question, carry(alloc)) else {
+        return Err(AllocError);
+    };
+    with_command(with_carry, migrate(alloc))
 }

@@ -41,6 +41,15 @@ pub enum Order<'a> {
     BookText(&'a str),
     /// `audit FILE`: checks each posting of an archive, or makes all calls of a book's file again.
     Audit(&'a str),
+    /// `question FILE CYCLE [ROUND]`: prints the question that a gas day's book was frozen with in a round of a cycle, the last one
+    /// where no round is named, and what came of it.
+    Question {
+        file: &'a str,
+        cycle: u8,
+        round: Option<u32>,
+    },
+    /// `carry FILE`: prints what each line of a gas day is carried over with to the next one.
+    Carry(&'a str),
     /// `migrate FILE`: brings an archive of version 1 to version 2.
     Migrate(&'a str),
 }
@@ -96,6 +105,65 @@ fn book_text_of<'a>(file: Option<&'a str>) -> Option<Order<'a>>
     }
 }
 
+/// The cycle that a word names.
+fn cycle_named(word: &str) -> Option<u8>
+    ensures { result ≡ spec.cycle_named word.now }
+{
+    match word {
+        "1" => Some(1),
+        "2" => Some(2),
+        "3" => Some(3),
+        "4" => Some(4),
+        "5" => Some(5),
+        _ => None,
+    }
+}
+
+/// The greatest round, since a gas day has no more.
+const MOST_ROUNDS: u32 = 1_000_000;
+
+/// The round that a word names.
+fn round_named(word: &str) -> Option<u32>
+    ensures { result ≡ spec.round_named word.now }
+{
+    let Ok(round) = word.parse::<u32>() else {
+        return None;
+    };
+    if 1 <= round && round <= MOST_ROUNDS {
+        Some(round)
+    } else {
+        None
+    }
+}
+
+/// The order that prints the frozen question of this file's gas day, in the cycle and the round that the words name.
+fn question_of<'a>(
+    file: Option<&'a str>,
+    cycle: Option<&str>,
+    round: Option<&str>,
+) -> Option<Order<'a>>
+    ensures { option_map seen result ≡ spec.question_of (option_map (λ f. f.now) file.entry)
+        (option_map (λ w. w.now) cycle.entry) (option_map (λ w. w.now) round.entry) }
+{
+    let file = file?;
+    let cycle = cycle_named(cycle?)?;
+    let round = match round {
+        Some(word) => Some(round_named(word)?),
+        None => None,
+    };
+    Some(Order::Question { file, cycle, round })
+}
+
+/// The order that prints what is carried over from this file's gas day.
+fn carry_of<'a>(file: Option<&'a str>) -> Option<Order<'a>>
+    ensures { option_map seen result ≡ option_map ordered.Carry (option_map (λ f. f.now) file.entry) }
+{
+    match file {
+        Some(file) => Some(Order::Carry(file)),
+        None => None,
+    }
+}
+
 /// The order that brings this archive to version 2.
 fn migrate_of<'a>(file: Option<&'a str>) -> Option<Order<'a>>
     ensures { option_map seen result ≡ option_map ordered.Migrate (option_map (λ f. f.now) file.entry) }
@@ -138,6 +206,12 @@ fn order_from<'a>(name: &str, given: &ArgMatches<'a>) -> Option<Order<'a>>
         "office" => Some(Order::Text(Command::Office)),
         "audit" => audit_of(word_given(given, "file")),
         "text" => book_text_of(word_given(given, "file")),
+        "question" => question_of(
+            word_given(given, "file"),
+            word_given(given, "cycle"),
+            word_given(given, "round"),
+        ),
+        "carry" => carry_of(word_given(given, "file")),
         "migrate" => migrate_of(word_given(given, "file")),
         _ => None,
     }
@@ -184,8 +258,27 @@ pub(crate) fn request_in<'a>(
     request_from(alloc, name, given)
 }
 
-/// The word after `check`, if that is the command.
-pub(crate) fn word_after_check<'a>(matches: &ArgMatches<'a>) -> Option<&'a str> {
-    let (_, given) = matches.subcommand()?;
-    given.get_str("what")
+/// Why words that clap takes name no order: the word is no check, no cycle or no round, or a gas day is given both an archive and
+/// a book's file.
+#[derive(Clone, Copy)]
+pub(crate) enum NoOrder<'a> {
+    Check(&'a str),
+    Cycle(&'a str),
+    Round(&'a str),
+    BothFiles,
+}
+
+/// Why the matches name no order.
+pub(crate) fn no_order_in<'a>(matches: &ArgMatches<'a>) -> NoOrder<'a> {
+    let Some((_, given)) = matches.subcommand() else {
+        return NoOrder::BothFiles;
+    };
+    if let Some(word) = given.get_str("what") {
+        return NoOrder::Check(word);
+    }
+    match (given.get_str("cycle"), given.get_str("round")) {
+        (Some(word), _) if cycle_named(word).is_none() => NoOrder::Cycle(word),
+        (_, Some(word)) => NoOrder::Round(word),
+        _ => NoOrder::BothFiles,
+    }
 }
