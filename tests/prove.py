@@ -7,7 +7,8 @@ and those below them. The libraries and programs stand in FOLDER/crates/*/out af
 output, and its last line and status are this program's; with --progress standard error tells how far it is.
 
 As many crates are checked side by side as there are processors, each by one process with one job, as far as memory allows. With
---progress, where there are more than two processors, one more is, and those of long chains come first (tests/rt_ci.py).
+--progress, where there are more than two processors, four more are, and those of long chains come first (tests/rt_ci.py): what
+can wait is begun all the same, at a lower priority, and must not keep them from beginning.
 """
 
 import os
@@ -18,7 +19,7 @@ import sys
 import time
 from pathlib import Path
 
-from lanes import lanes
+from lanes import USUAL, lanes
 
 TOP = Path(__file__).resolve().parent.parent
 ENDED = re.compile(r"rt: (\w+) (?:proved|is kept)\b")
@@ -59,7 +60,7 @@ def proved(folder, count, shows):
     """Runs rt ci in the folder, and gives its status."""
     began, done = time.monotonic(), set()
     is_first_build = shows and lanes() > 2
-    environment = {**os.environ, "RT_JOBS": str(lanes(more=1 if is_first_build else 0))}
+    environment = {**os.environ, "RT_JOBS": str(lanes(more=4, room=USUAL) if is_first_build else lanes())}
     command = [sys.executable, TOP / "tests" / "rt_ci.py", *(["--first-build"] if is_first_build else [])]
     with subprocess.Popen(command, cwd=folder, env=environment, stdin=subprocess.DEVNULL, stdout=subprocess.PIPE, text=True) as gate:
         for line in gate.stdout:

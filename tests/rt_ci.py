@@ -5,39 +5,49 @@ crate, along every path to them, is kept: the sums alone come to ten minutes of 
 
 With --first-build the order of its work is another: who builds the program waits for the longest chain of crates, each of which
 stands on the one before, while processors idle at its end. So a check has the lower a priority, the shorter the longest chain of
-its crate is; the crates of each chain that is nearly as long as the longest are checked with two jobs, and a program with four,
-which takes more processor time in all, and less by the clock; and both compilers build the program at the same time.
+its crate is, by the seconds that proofs took on one machine (proof_seconds.txt); the crates of each chain that is nearly as long
+as the longest are checked with two jobs, and a program with four, which takes more processor time in all, and less by the clock;
+and both compilers build the program at the same time.
 """
 
 import os
 import sys
 import threading
 from concurrent.futures import ThreadPoolExecutor
+from pathlib import Path
 
 from toolchain import remembered, toolchain
 
-# What a check costs beside its crate's lines, as so many lines: it loads all libraries below, and writes its own.
-EACH = 560
+# The seconds of a processor that proofs took, by crate, as tests/time_gate.py tells them.
+MEASURED = Path(__file__).with_name("proof_seconds.txt")
+# What a check costs that isn't among them: so many seconds, and one more for so many of its crate's lines.
+EACH, LINES = 50, 12
 # From what share of the longest chain on a crate is checked with two jobs.
 NEARLY = 0.95
 # How much lower the priority of a check is for each hundredth by which its chain is shorter, and at most.
 STEEP, LOWEST = 0.6, 15
 
 
-def shares(tasks):
+def seconds(tasks):
+    """What each task takes of a processor, by what its crate's proof took, or by its lines, which are a task's second part."""
+    measured = {name: int(taken) for name, taken in map(str.split, MEASURED.read_text().splitlines())}
+    return {key: measured.get(key[0], EACH + task[1] // LINES) for key, task in tasks.items()}
+
+
+def shares(tasks, takes):
     """How long the longest chain of proofs is on which a proof stands, of the longest of all, for each. A task comes behind those
-    that it waits for, which are its first part; its lines are the second."""
-    proofs = {key: (task[0], EACH + task[1]) for key, task in tasks.items() if key[1] == "proof"}
+    that it waits for, which are its first part."""
+    proofs = {key: (task[0], takes[key]) for key, task in tasks.items() if key[1] == "proof"}
     before, behind = {}, dict.fromkeys(proofs, 0)
-    for key, (waits, lines) in proofs.items():
-        before[key] = lines + max((before[it] for it in waits), default=0)
+    for key, (waits, taken) in proofs.items():
+        before[key] = taken + max((before[it] for it in waits), default=0)
     for key in reversed(proofs):
-        waits, lines = proofs[key]
-        behind[key] += lines
+        waits, taken = proofs[key]
+        behind[key] += taken
         for it in waits:
             behind[it] = max(behind[it], behind[key])
     longest = max(before.values(), default=1)
-    return {key: (before[key] + behind[key] - lines) / longest for key, (_, lines) in proofs.items()}
+    return {key: (before[key] + behind[key] - taken) / longest for key, (_, taken) in proofs.items()}
 
 
 def niceness(share):
@@ -65,12 +75,13 @@ class Ordered:
 
     def run_all(self, tasks):
         """All tasks, those on long chains before the others."""
-        share, last = shares(tasks), [*tasks][-1][0]
+        takes = seconds(tasks)
+        share, last = shares(tasks, takes), [*tasks][-1][0]
 
         def ordered(key, task):
             part = share.get(key, 0)
             jobs = 4 if key[0] == last else 2 if part >= NEARLY else 1
-            return (task[0], EACH + task[1], task[2], lambda given, _: at_priority(niceness(part), task[3], given, jobs))
+            return (task[0], takes[key], task[2], lambda given, _: at_priority(niceness(part), task[3], given, jobs))
 
         return self.in_lanes({key: ordered(key, task) for key, task in tasks.items()})
 
