@@ -10,8 +10,8 @@ use Rattle.gd_machine.specs.Day.{Day}
 use Rattle.gd_office_part.specs.declared.kept.Receipt.{Receipt}
 use Rattle.gd_office_part.specs.declared.threads.Phase.{Phase}
 use Rattle.gd_office_run.specs.Runs.{Outcome, Gives, HasGiven, AreNumbered, IsRun, outcome_rows, phase_rows, run_rows}
-use Rattle.gd_office_end.specs.declared.holding.Holding.{Holding}
-use Rattle.gd_office_run.specs.Shares.{HoldsRun}
+use Rattle.gd_office_run.specs.declared.holding.Holding.{Holding}
+use Rattle.gd_office_run.specs.RunShares.{HoldsRun}
 use Rattle.gd_office_run.specs.RunRows.{EndsEarly}
 use Rattle.gd_replies.specs.declared.reply.Reply.{Reply}
 

@@ -7,7 +7,7 @@ use Rattle.gd_machine.specs.declared.event.Event.{Event}
 use Rattle.gd_machine.specs.declared.event.Event.TheVariants.{Declare}
 use Rattle.gd_machine.specs.Day.{Day}
 use Rattle.gd_office_part.specs.declared.kept.Receipt.{Receipt}
-use Rattle.gd_office_replies.specs.Desks.{HasShape, IsEndShaped}
+use Rattle.gd_office_run.specs.Desks.{HasShape, IsEndShaped}
 use Rattle.gd_question.specs.Posing.{Posed}
 
 has_shape : (moment : ℕ) (q : Posed) (e : Event) → ClosesFor moment q e → HasShape q e

@@ -1,4 +1,9 @@
-pub mod Runs
+pub mod Receipts
+pub mod Desks
+pub mod Picking
 pub mod Shares
+pub mod Ends
+pub mod Runs
+pub mod RunShares
 pub mod RunRows
 pub mod Faults

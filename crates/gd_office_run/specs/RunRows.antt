@@ -3,11 +3,11 @@ use Rattle.std.specs.Prelude.{◌≡◌, ℕ, ◌+◌, Bool, true, false, List, 
 use Rattle.std.specs.List.{list_all}
 use Rattle.gd_machine.specs.Day.{Day}
 use Rattle.gd_office_part.specs.declared.threads.Phase.{Phase}
-use Rattle.gd_office_end.specs.declared.end.End.{End}
-use Rattle.gd_office_end.specs.declared.end.End.TheVariants as end
-use Rattle.gd_office_end.specs.Shares.{EndFrom}
+use Rattle.gd_office_run.specs.declared.end.End.{End}
+use Rattle.gd_office_run.specs.declared.end.End.TheVariants as end
+use Rattle.gd_office_run.specs.Shares.{EndFrom}
 use Rattle.gd_office_run.specs.Runs.{Outcome, IsRun, run_rows}
-use Rattle.gd_office_run.specs.Shares.{share_of}
+use Rattle.gd_office_run.specs.RunShares.{share_of}
 use Rattle.gd_replies.specs.declared.reply.Reply.{Reply}
 use Rattle.gd_replies.specs.declared.reply.Reply.TheVariants as reply
 

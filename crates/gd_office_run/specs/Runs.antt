@@ -12,8 +12,8 @@ use Rattle.gd_office_part.specs.declared.threads.SessionRows.{SessionRows}
 use Rattle.gd_office_part.specs.Counting.{none, counted_all}
 use Rattle.gd_office_part.specs.Sending.{events_of, events_by}
 use Rattle.gd_office_part.specs.StepResults.{Stepped}
-use Rattle.gd_office_replies.specs.Desks.{desk_rows}
-use Rattle.gd_office_replies.specs.Receipts.{sessions_rows}
+use Rattle.gd_office_run.specs.Desks.{desk_rows}
+use Rattle.gd_office_run.specs.Receipts.{sessions_rows}
 use Rattle.gd_replies.specs.declared.reply.Reply.{Reply}
 
 -- A session that is opened for rows: of their slot, by their party, with nothing counted.

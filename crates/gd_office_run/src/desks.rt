@@ -4,16 +4,16 @@ ghost use Rattle.std.specs.Prelude.{List, ◌≡◌, ◌+◌, ◌≤◌, ◌^◌
 ghost use Rattle.std.specs.List.{All};
 ghost use Rattle.gd_desk.specs.Desks.{AreTried, AreDesks};
 ghost use Rattle.gd_machine.specs.Day.{Day};
-ghost use Rattle.gd_office_end.specs.Shares.{IsOf, Gains};
-ghost use Rattle.gd_office_replies.specs.Desks.{IsEndShaped};
+ghost use Rattle.gd_office_run.specs.Desks.{IsEndShaped};
 ghost use Rattle.gd_office_run.specs.Runs as spec;
-ghost use Rattle.gd_office_run.specs.Shares as shares;
+ghost use Rattle.gd_office_run.specs.RunShares as shares;
+ghost use Rattle.gd_office_run.specs.Shares.{IsOf, Gains};
 
+use crate::desk_rows::push_desk;
 use crate::fault::RunFault;
+use crate::holding::Holding;
 use gd_desk::{Desk, DeskFault};
-use gd_office_end::Holding;
 use gd_office_part::Days;
-use gd_office_replies::push_desk;
 use gd_replies::Reply;
 use std::alloc::{AllocError, Global};
 

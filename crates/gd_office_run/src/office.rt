@@ -2,16 +2,17 @@
 
 ghost use Rattle.std.specs.Prelude.{◌≡◌, ◌+◌, ◌≤◌, ◌^◌, ◌++◌, ℕ, [], true, IfOk, IfSome, OnOk, OnErr, vec_len, length as len_of};
 ghost use Rattle.std.specs.List.{list_all};
-ghost use Rattle.gd_office_end.specs.Shares.{IsOf};
 ghost use Rattle.gd_office_run.specs.Runs as spec;
-ghost use Rattle.gd_office_run.specs.Shares as shares;
+ghost use Rattle.gd_office_run.specs.RunShares as shares;
 ghost use Rattle.gd_office_run.specs.RunRows as spec_told;
+ghost use Rattle.gd_office_run.specs.Shares.{IsOf};
 
+use crate::end::End;
 use crate::fault::RunFault;
+use crate::holding::{Holding, end_slots};
 use crate::phase::{hold, rows_of, run_phase};
 use gd_desk::Gate;
 use gd_office::Office;
-use gd_office_end::{End, Holding, end_slots};
 use gd_office_part::{Days, Phase};
 use gd_replies::Reply;
 use std::alloc::{AllocError, Global};

@@ -3,19 +3,19 @@
 ghost use Rattle.std.specs.Prelude.{◌≡◌, ◌≤◌, ◌^◌, ℕ, IfOk, OnOk, map, vec_len, length as len_of};
 ghost use Rattle.std.specs.List.{All, range_with_len};
 ghost use Rattle.gd_office_part.specs.Sending.{lists_of};
-ghost use Rattle.gd_office_replies.specs.Desks.{IsEndShaped};
+ghost use Rattle.gd_office_run.specs.Desks.{IsEndShaped};
 ghost use Rattle.gd_office_run.specs.Runs as spec;
-ghost use Rattle.gd_office_run.specs.Shares as shares;
-ghost use Rattle.gd_office_end.specs.Shares.{IsOf, Gains};
+ghost use Rattle.gd_office_run.specs.RunShares as shares;
+ghost use Rattle.gd_office_run.specs.Shares.{IsOf, Gains};
 
 use crate::desks::{desks_of, hold_desks, push_desks};
 use crate::fault::RunFault;
+use crate::holding::Holding;
 use crate::opened::open_all;
+use crate::receipts::push_sessions;
 use gd_desk::{Desk, Gate, desk_round};
 use gd_office::Office;
-use gd_office_end::Holding;
 use gd_office_part::{Days, Phase, Receipt, Session, send};
-use gd_office_replies::push_sessions;
 use gd_replies::Reply;
 use std::alloc::{AllocError, Global};
 use std::sync::Wait;

@@ -1,9 +1,9 @@
 use Rattle.std.proofs.Common.{◌≡◌, [], ◌∷◌, arith, rules}
 use Rattle.std.proofs.lemmas.List.{nil_from_length}
 use Rattle.std.specs.Vec.Iter.{into_iter_items}
-use Rattle.gd_office_end.specs.Shares.{share_at, plus}
-use Rattle.gd_office_run.specs.Shares.{of_desks}
-use Rattle.gd_office_run.proofs.Shares.{desk_step, desk_end}
+use Rattle.gd_office_run.specs.Shares.{share_at, plus}
+use Rattle.gd_office_run.specs.RunShares.{of_desks}
+use Rattle.gd_office_run.proofs.RunShares.{desk_step, desk_end}
 use Rattle.gd_office_run.proofs.desks.hold_desks.Goals as goal
 
 pub loop-desk-preserved-in_ok-take_desk : goal.loop-desk-preserved-in_ok-take_desk

@@ -1,7 +1,7 @@
 use Rattle.std.proofs.Common.{◌≡◌, ◌+◌, ℕ, ◌<◌, vec_len}
 use Rattle.std.specs.Vec.Iter.{into_iter_items, into_iter_len}
-use Rattle.gd_office_end.specs.Shares.{IsOf, share_at, plus}
-use Rattle.gd_office_run.specs.Shares.{of_desks}
+use Rattle.gd_office_run.specs.Shares.{IsOf, share_at, plus}
+use Rattle.gd_office_run.specs.RunShares.{of_desks}
 use Rattle.gd_office_run.proofs.desks.hold_desks.Given as goal
 
 -- What a slot has, with what it will have of the desks that are left.

@@ -1,8 +1,8 @@
 use Rattle.std.proofs.Common.{◌≡◌, ◌∙◌, ◌++◌, List, length, refl, ap, ap₂, arith, rules}
 use Rattle.std.specs.List.{list_all}
-use Rattle.gd_office_end.specs.Shares.{share_at}
-use Rattle.gd_office_end.proofs.Shares.{end_same}
-use Rattle.gd_office_run.specs.Shares.{share_of}
+use Rattle.gd_office_run.specs.Shares.{share_at}
+use Rattle.gd_office_run.proofs.Shares.{end_same}
+use Rattle.gd_office_run.specs.RunShares.{share_of}
 use Rattle.gd_office_run.specs.RunRows.{ends_rows, is_reconciled}
 use Rattle.gd_replies.specs.declared.reply.Reply.{Reply}
 use Rattle.gd_office_run.proofs.Runs.{early, on_err}

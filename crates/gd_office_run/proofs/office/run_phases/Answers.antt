@@ -1,7 +1,7 @@
 use Rattle.std.proofs.Common.{◌∙◌, ◌++◌, [], ◌∷◌, arith, length}
 use Rattle.gd_office_run.specs.Runs.{Outcome}
 use Rattle.gd_office_run.proofs.Runs.{on_err, run_at, rows_more, sessions_more}
-use Rattle.gd_office_run.proofs.Shares.{holds_more}
+use Rattle.gd_office_run.proofs.RunShares.{holds_more}
 use Rattle.gd_office_run.proofs.office.run_phases.Goals as goal
 
 pub returns-in_err-take_phase-clause-err : goal.returns-in_err-take_phase-clause-err

@@ -1,6 +1,6 @@
 use Rattle.std.proofs.Common.{◌≡◌, ◌+◌, ◌≤◌, ◌^◌, List, take, length}
 use Rattle.gd_office_run.specs.Runs.{Outcome, IsRun, run_rows}
-use Rattle.gd_office_run.specs.Shares.{Holds}
+use Rattle.gd_office_run.specs.RunShares.{Holds}
 use Rattle.gd_office_run.proofs.Runs.{sessions_in}
 use Rattle.gd_office_run.proofs.office.run_phases.Given as goal
 

@@ -5,10 +5,10 @@ use Rattle.std.proofs.lemmas.List.{length-map}
 use Rattle.std.proofs.lemmas.List.FromFn.{length-range_with_len}
 use Rattle.gd_office_part.specs.declared.kept.Receipt.{Receipt}
 use Rattle.gd_office_part.specs.Sending.{lists_of}
-use Rattle.gd_office_end.specs.Shares.{Share, share_at, plus}
+use Rattle.gd_office_run.specs.Shares.{Share, share_at, plus}
 use Rattle.gd_office_run.specs.Runs.{counts_of}
-use Rattle.gd_office_run.specs.Shares.{of_desks}
-use Rattle.gd_office_run.proofs.Shares.{plus_assoc, sessions_are}
+use Rattle.gd_office_run.specs.RunShares.{of_desks}
+use Rattle.gd_office_run.proofs.RunShares.{plus_assoc, sessions_are}
 use Rattle.gd_office_run.proofs.phase.hold.Goals as goal
 
 pub take_sessions-requires-clause-numbers : goal.take_sessions-requires-clause-numbers

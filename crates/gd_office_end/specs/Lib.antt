@@ -1,3 +1,0 @@
-pub mod Picking
-pub mod Shares
-pub mod Ends
