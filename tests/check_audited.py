@@ -1,11 +1,11 @@
 #!/usr/bin/env python3
 """check_audited.py [--list [PATH | COMMAND..]]
 
-Finds the files of definitions that the statements of seven paths reach (below: PATHS), and compares them with `docs/AUDIT.md`:
+Finds the files of definitions that the statements of eight paths reach (below: PATHS), and compares them with `docs/AUDIT.md`:
 each file that is reached stands there exactly once, with the paths that reach it, in the section of the first of them; each
 that stands there is reached; the counts of lines are right, and so are the types of the program and the modules of the kit
 that the definitions name. With `--list` it prints the files that all paths reach, with their lines; with the name of a path
-behind it (`Best`, `Headline`, `Checks`, `Days`, `Archives`, `Offices`, `Books`) those of that path, and with commands (such as
+behind it (`Best`, `Headline`, `Checks`, `Days`, `Archives`, `Offices`, `Books`, `Rounds`) those of that path, and with commands (such as
 `CheckBest CheckCut`) those that are reached by these commands of `gasday_part` alone.
 
 What counts as reached:
@@ -46,6 +46,7 @@ PATHS = {
     "e": ("Archives", (ANSWER_ORDER, WRITE), ()),
     "f": ("Offices", (ANSWER_OFFICE, WRITE), ()),
     "g": ("Books", BOOKS, ()),
+    "h": ("Rounds", (("gasday_part", "ask_text"), ("gasday_live", "ask_book")), ()),
 }
 
 USE = re.compile(r"^\s*(?:ghost )?use (Rattle\.[\w.]+?)(?:\.\{([^}]*)\}| as (\w+));?$")
@@ -270,7 +271,7 @@ class Document:
     """What `docs/AUDIT.md` says: files with their lines and paths, by section, types, modules of the kit, and totals."""
 
     SECTION = re.compile(r"^## \((\w)\) ")
-    FILE = re.compile(r"^- `(\w+)/(\w+\.antt)` \((\d+), ([a-g]+)\): \S")
+    FILE = re.compile(r"^- `(\w+)/(\w+\.antt)` \((\d+), ([a-h]+)\): \S")
     NAMES = re.compile(r"`(\w+)`: ((?:`[\w.]+`(?:, )?)+)")
     TOTAL = re.compile(r"\*\*(?:Stop here \((\w)\)|(All)): (\d+) files, ([\d,]+) lines")
 

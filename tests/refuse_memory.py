@@ -130,6 +130,9 @@ TEXTS = {
     "solve": PIPELINE,
     "calendar": 'day,2026-03-08,"CST6CDT,M3.2.0,M11.1.0",,,,,\n',
     "day": DAY,
+    "question - 1": DAY,
+    "question - 2": DAY,
+    "carry -": DAY,
     "office": OFFICE,
 }
 

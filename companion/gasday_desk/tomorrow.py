@@ -1,6 +1,7 @@
 """What the day after carries over, as `carry` rows of its opening.
 
-Until the program has a command for it this is made of what was told: of each line what it was scheduled last.
+This is made of what was told: of each line what it was scheduled last. `gasday carry FILE` tells the same of a day's file, which
+belongs to the run that serves it as long as that goes on.
 """
 
 from .rows import Row, row_of

@@ -7,6 +7,8 @@ use Rattle.sqlite.specs.declared.error.Error.{Error}
 use Rattle.gd_replies.specs.declared.reply.Reply.TheVariants as reply
 use Rattle.gasday_part.specs.Answers.{one}
 use Rattle.gasday_part.specs.Output.{WritesTold}
+use Rattle.gasday_part.specs.declared.inquiry.Inquiry.{Inquiry}
+use Rattle.gasday_live.specs.Asked.{AsksBook}
 use Rattle.gasday_live.specs.Runs.{Runs}
 use Rattle.gasday_live.specs.Texts.{Prints}
 
@@ -32,3 +34,9 @@ module _ {S : Type 0} (g : Ghosts S) (gives : Result (Held S) Error → Type 0) 
   PrintsFile left before behind status =
       (opened : Result (Held S) Error) × gives opened
       × DoesOn g (λ old new. Prints (state g old) before behind status) (TellsUnopened before behind status) opened left
+
+  -- what is asked of the book that this file keeps is written
+  abbrev pub AsksFile : Inquiry → Option (Held S) → Option (List ℕ) → Option (List ℕ) → ℕ → Type 0
+  AsksFile asked left before behind status =
+      (opened : Result (Held S) Error) × gives opened
+      × DoesOn g (λ old new. AsksBook (state g old) asked before behind status) (TellsUnopened before behind status) opened left

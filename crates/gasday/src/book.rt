@@ -2,12 +2,12 @@
 
 ghost use Rattle.std.specs.Prelude.{◌≡◌, ◌⊎◌};
 ghost use Rattle.gd_replies.specs.declared.reply.Reply.TheVariants as reply;
-ghost use Rattle.gasday.specs.Files.{PrintsFile, ServesFile, TellsUnopened};
+ghost use Rattle.gasday.specs.Files.{AsksFile, PrintsFile, ServesFile, TellsUnopened};
 
 use crate::Ran;
 use gasday_archive::Opener;
-use gasday_live::{print_book, serve_book};
-use gasday_part::{last_of, of_one, write_answer};
+use gasday_live::{ask_book, print_book, serve_book};
+use gasday_part::{Inquiry, Written, last_of, of_one, write_answer};
 use gd_replies::Reply;
 use sqlite::{Alter, Error, ErrorCode};
 use std::alloc::Global;
@@ -85,6 +85,35 @@ pub(crate) fn print_over<S: Alter + Drop, W: Write, O: Opener<S>>(
             Ran {
                 status,
                 last: None,
+                file: Some(conn),
+            }
+        }
+        Err(error) => write_unopened(alloc, &error, writer),
+    }
+}
+
+/// Writes what is asked of the book that the file keeps which the opener gives.
+pub(crate) fn ask_over<T, S, W, O>(
+    threads: &T,
+    alloc: Global,
+    inquiry: Inquiry,
+    writer: &mut W,
+    opener: O,
+) -> Ran<S>
+where
+    T: Threads + Sync,
+    S: Alter + Drop,
+    W: Write,
+    O: Opener<S>,
+    ensures { AsksFile S.Store (O.Opener.opens opener) inquiry result.file
+        (W.contents writer.old) (W.contents writer.new) result.status }
+{
+    match opener.open() {
+        Ok(mut conn) => {
+            let Written { status, last } = ask_book(threads, alloc, &mut conn, inquiry, writer);
+            Ran {
+                status,
+                last,
                 file: Some(conn),
             }
         }

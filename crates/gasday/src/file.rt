@@ -2,8 +2,9 @@
 
 use gasday_archive::Opener;
 use gasday_words::Order;
-use sqlite::{Connection, Error, ErrorCode, File, FileStore};
-use std::fs::metadata;
+use sqlite::{Connection, Error, ErrorCode, File as StoreFile, FileStore};
+use std::fs::{File, metadata};
+use std::io::Read;
 
 /// The file that an order names.
 #[derive(Drop)]
@@ -18,9 +19,11 @@ impl<'a> NamedFile<'a> {
         match self.order {
             Order::Text(_) | Order::ArchivedDay("") | Order::LiveDay("") => None,
             Order::ArchivedDay(file) | Order::LiveDay(file) => Some(file),
-            Order::Audit(file) | Order::Migrate(file) | Order::BookText(file) => match metadata(
-                self.rt, file,
-            ) {
+            Order::Audit(file)
+            | Order::Migrate(file)
+            | Order::BookText(file)
+            | Order::Question { file, .. }
+            | Order::Carry(file) => match metadata(self.rt, file) {
                 Ok(found) if found.len() > 0 => Some(file),
                 _ => None,
             },
@@ -28,13 +31,13 @@ impl<'a> NamedFile<'a> {
     }
 }
 
-impl<'a> Opener<FileStore<File>> for NamedFile<'a> {
+impl<'a> Opener<FileStore<StoreFile>> for NamedFile<'a> {
     ghost use Rattle.std.specs.Prelude.{⊤};
 
     // Whatever the file is, or why it can't be opened.
     ghost opens = { λ file opened. ⊤ };
 
-    fn open(self) -> Result<Connection<FileStore<File>>, Error> {
+    fn open(self) -> Result<Connection<FileStore<StoreFile>>, Error> {
         match self.name() {
             Some(name) => Connection::open(self.rt, name),
             None => Err(Error::SqliteFailure(ErrorCode::CannotOpen)),
@@ -42,8 +45,21 @@ impl<'a> Opener<FileStore<File>> for NamedFile<'a> {
     }
 }
 
+/// The bytes with which each database of SQLite begins.
+const MAGIC: &[u8] = b"SQLite format 3\0";
+
+/// Whether a file is a database of SQLite. What can't be read is none.
+pub(crate) fn is_database(rt: &HostRuntime, name: &str) -> bool {
+    let mut head = Vec::new(rt.alloc());
+    let Ok(file) = File::open(rt, name) else {
+        return false;
+    };
+    let read = file.take(MAGIC.len() as u64).read_to_end(&mut head);
+    read.is_ok() && head.as_slice() == MAGIC
+}
+
 /// Closes a file that was opened, and copies its log into it. Where that fails both stay, and what was kept stands in the log.
-pub(crate) fn close(file: Option<Connection<FileStore<File>>>) -> Result<(), Error> {
+pub(crate) fn close(file: Option<Connection<FileStore<StoreFile>>>) -> Result<(), Error> {
     match file {
         Some(file) => file.close(),
         None => Ok(()),

@@ -34,12 +34,25 @@ fn left(bytes: &[u8]) -> u64 {
         .saturating_sub(bytes.len() as u64)
 }
 
+/// The name by which standard input is one of the files.
+const STANDARD_INPUT: &str = "-";
+
+/// Reads what a file has, or standard input, and no more than a text may have behind so many bytes.
+fn read_named(rt: &HostRuntime, name: &str, bytes: &[u8]) -> io::Result<Vec<u8>> {
+    let mut file = Vec::new(rt.alloc());
+    if name == STANDARD_INPUT {
+        rt.reader().take(left(bytes)).read_to_end(&mut file)?;
+    } else {
+        File::open(rt, name)?
+            .take(left(bytes))
+            .read_to_end(&mut file)?;
+    }
+    Ok(file)
+}
+
 /// Puts what a file has behind the bytes, and a line break behind that if it has none.
 fn append(rt: &HostRuntime, name: &str, bytes: &mut Vec<u8>) -> io::Result<()> {
-    let mut file = Vec::new(rt.alloc());
-    File::open(rt, name)?
-        .take(left(bytes.as_slice()))
-        .read_to_end(&mut file)?;
+    let file = read_named(rt, name, bytes.as_slice())?;
     let text = file.as_slice();
     bytes.extend_from_slice(text.strip_prefix(BYTE_ORDER_MARK).unwrap_or(text))?;
     if !bytes.as_slice().ends_with(b"\n") {

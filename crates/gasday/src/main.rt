@@ -16,17 +16,18 @@ mod input;
 mod noted;
 mod told;
 
-use crate::book::{print_over, serve_over};
-use crate::file::{NamedFile, close};
+use crate::book::{ask_over, print_over, serve_over};
+use crate::file::{NamedFile, close, is_database};
 use crate::input::{Text, Unread};
 use crate::noted::Noted;
 use crate::told::{tell_unclosed, tell_unread, tell_unwritten, tell_waiting, tell_why};
 use gasday_archive::{Opener, Outcome, answer_to};
 use gasday_office::answer_office;
-use gasday_part::{last_of, of_fault, write_answer};
+use gasday_part::{Inquiry, Written, ask_text, last_of, of_fault, write_answer};
 use gasday_words::{Command, Order, Request, UsageFault, request_of};
 use gd_replies::Reply;
 use gd_text_part::TextFault;
+use gd_units::{CycleNo, Round};
 use sqlite::{Alter, Connection, Error, File, FileStore};
 use std::alloc::Global;
 use std::io::{Read, Write};
@@ -187,6 +188,74 @@ fn print(rt: &HostRuntime, order: Order<'_>) -> u8 {
     end(rt, order, &Text::empty(rt), ran, writer.error())
 }
 
+/// Writes what is asked of the book of an order's file, a database.
+fn ask_file<T: Threads + Sync>(
+    threads: &T,
+    rt: &HostRuntime,
+    order: Order<'_>,
+    inquiry: Inquiry,
+) -> u8 {
+    let mut writer = Noted::new(io::writer(rt));
+    let file = NamedFile { rt, order };
+    let ran = ask_over(threads, rt.alloc(), inquiry, &mut writer, file);
+    end(rt, order, &Text::empty(rt), ran, writer.error())
+}
+
+/// Writes what is asked of the book of a text.
+fn ask_rows<T: Threads + Sync>(
+    threads: &T,
+    rt: &HostRuntime,
+    order: Order<'_>,
+    inquiry: Inquiry,
+    text: &Text<'_>,
+) -> u8 {
+    let mut writer = Noted::new(io::writer(rt));
+    let bytes = text.bytes.as_slice();
+    let Written { status, last } = ask_text(threads, rt.alloc(), bytes, inquiry, &mut writer);
+    let ran = Ran {
+        status,
+        last,
+        file: None,
+    };
+    end(rt, order, text, ran, writer.error())
+}
+
+/// Writes what is asked of the book of a file: a database's, or a text's.
+fn ask<T: Threads + Sync>(
+    threads: &T,
+    rt: &HostRuntime,
+    order: Order<'_>,
+    file: &str,
+    inquiry: Inquiry,
+) -> u8 {
+    if is_database(rt, file) {
+        return ask_file(threads, rt, order, inquiry);
+    }
+    match Text::of_files(rt, &[file]) {
+        Ok(text) => ask_rows(threads, rt, order, inquiry, &text),
+        Err(unread) => refuse(rt, order, &unread),
+    }
+}
+
+/// Writes the question of a round.
+fn ask_round<T: Threads + Sync>(
+    threads: &T,
+    rt: &HostRuntime,
+    order: Order<'_>,
+    file: &str,
+    cycle: u8,
+    round: Option<u32>,
+) -> u8 {
+    let round = match round {
+        Some(number) => Round::new(number),
+        None => None,
+    };
+    match CycleNo::new(cycle) {
+        Some(cycle) => ask(threads, rt, order, file, Inquiry::Round(cycle, round)),
+        None => 2,
+    }
+}
+
 /// Tells why a text was not read, and answers the exit status.
 fn refuse(rt: &HostRuntime, order: Order<'_>, unread: &Unread<'_>) -> u8 {
     if let Unread::Standard(fault, _) = unread {
@@ -222,6 +291,10 @@ fn carry_out<T: Threads + Wait + Clock + Sync>(
     match request.order {
         Order::LiveDay(_) => serve(threads, rt, request),
         Order::BookText(_) => print(rt, request.order),
+        Order::Question { file, cycle, round } => {
+            ask_round(threads, rt, request.order, file, cycle, round)
+        }
+        Order::Carry(file) => ask(threads, rt, request.order, file, Inquiry::Carried),
         order => match text_of(rt, request) {
             Ok(text) => answer(threads, rt, order, &text),
             Err(unread) => refuse(rt, order, &unread),

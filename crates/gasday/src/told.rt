@@ -65,6 +65,7 @@ fn form_of(order: Order<'_>) -> Option<Form> {
         Order::Text(Command::Calendar) => Some(Form::Calendar),
         Order::Text(Command::Day) | Order::ArchivedDay(_) | Order::LiveDay(_) => Some(Form::Day),
         Order::Text(Command::Office) => Some(Form::Office),
+        Order::Question { .. } | Order::Carry(_) => Some(Form::Day),
         Order::Audit(_) | Order::Migrate(_) | Order::BookText(_) => None,
     }
 }

@@ -3,7 +3,7 @@ use Rattle.std.specs.Prelude.{◌≡◌, ⊤, ℕ, List, Option, None, Result}
 use Rattle.sqlite_trees.specs.declared.store.Store.{Ghosts}
 use Rattle.sqlite.specs.Held.{Held}
 use Rattle.sqlite.specs.declared.error.Error.{Error}
-use Rattle.gasday_words.specs.Ordered.{Ordered, Text, ArchivedDay, Audit, BookText, LiveDay, Migrate}
+use Rattle.gasday_words.specs.Ordered.{Ordered, Text, ArchivedDay, Audit, BookText, Carry, LiveDay, Migrate, Question}
 use Rattle.gasday_words.specs.declared.order.Command.{Command}
 use Rattle.gasday_part.specs.Answers.{Told, AnswersBytes}
 use Rattle.gasday_archive.specs.Runs.{TellsAudit, TellsMigration, TellsOpened, TellsBytes, OrNoMemory}
@@ -12,10 +12,12 @@ use Rattle.gasday_archive.specs.Runs.{TellsAudit, TellsMigration, TellsOpened, T
 abbrev pub AnswersCommand : {S : Type 0} → Command → List ℕ → Option (Held S) → Told → Type 0
 AnswersCommand command text left a = (left ≡ None) × AnswersBytes command text a
 
--- an order that is answered: none that serves the book of a file, or prints its text
+-- an order that is answered: none that serves the book of a file, prints its text, or asks something of a book
 abbrev pub IsAnswered : Ordered → Type 0
 IsAnswered (LiveDay file) = ⊥
 IsAnswered (BookText file) = ⊥
+IsAnswered (Question file cycle round) = ⊥
+IsAnswered (Carry file) = ⊥
 IsAnswered order = ⊤
 
 -- What an order is answered, whose text has these bytes. A command its answer to them, and a gas day what is told of them and of
@@ -28,3 +30,5 @@ Answers g gives (Audit file) text left a = TellsOpened g gives (TellsAudit g) le
 Answers g gives (Migrate file) text left a = TellsOpened g gives (TellsMigration g) left a
 Answers g gives (LiveDay file) text left a = ⊥
 Answers g gives (BookText file) text left a = ⊥
+Answers g gives (Question file cycle round) text left a = ⊥
+Answers g gives (Carry file) text left a = ⊥

@@ -32,7 +32,7 @@ fn answer_command<S: Alter + Drop>(
 ///
 /// The opener gives the archive of the order's FILE. It is called once at most, and only for an order with a FILE: for a gas day
 /// only once its text and its calendar are good. What it gave comes back as it is left. It asks for an order other than
-/// `office`, which waits for locks, and than `day --book` and `text`, which answer no text.
+/// `office`, which waits for locks, and than those on a book's file, which answer no text.
 pub fn answer_to<S: Alter + Drop, O: Opener<S>>(
     rt: &(impl Threads + Sync),
     alloc: Global,
@@ -50,6 +50,8 @@ pub fn answer_to<S: Alter + Drop, O: Opener<S>>(
         Order::ArchivedDay(_) => tell_day(rt, alloc, text, opener),
         Order::Audit(_) => tell_audit(rt, alloc, opener.open()),
         Order::Migrate(_) => tell_migration(alloc, opener.open()),
-        Order::LiveDay(_) | Order::BookText(_) => unreachable!(),
+        Order::LiveDay(_) | Order::BookText(_) | Order::Question { .. } | Order::Carry(_) => {
+            unreachable!()
+        }
     }
 }

@@ -1,9 +1,10 @@
+mod Asking
 mod BegunBooks
 mod DayTexts
 mod Failing
 mod Faults
-mod Making
 mod MadeAgain
+mod Making
 mod Opened
 mod Openings
 mod ReadPieces

@@ -3,3 +3,4 @@ pub mod Audits
 pub mod Watching
 pub mod Runs
 pub mod Texts
+pub mod Asked

@@ -49,7 +49,7 @@ pub(crate) fn of_replay_fault(alloc: Global, why: &ReplayFault) -> Result<Answer
 }
 
 /// The book of a file; where it keeps no piece, it differs at its opening.
-fn read_all<S: Alter>(
+pub(crate) fn read_all<S: Alter>(
     rt: &(impl Threads + Sync),
     alloc: Global,
     conn: &mut Connection<S>,

@@ -4,6 +4,7 @@
 
 mod audit;
 mod beginning;
+mod inquiry;
 mod kept;
 mod laws;
 mod lines;
@@ -15,6 +16,7 @@ mod text;
 mod watched;
 
 pub use audit::audit_book;
+pub use inquiry::ask_book;
 pub use kept::KeptBook;
 pub use laws::book_is_day;
 pub use reading::read_book;

@@ -1,3 +1,4 @@
 pub mod Writing
 pub mod Finding
 mod Openings
+pub mod Inquiring

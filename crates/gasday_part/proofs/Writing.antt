@@ -14,7 +14,7 @@ use Rattle.gasday_part.specs.Output.{Written}
 lines-append : (a b : List Reply) → lines_of (a ++ b) ≡ lines_of a ++ lines_of b
 lines-append a b = flat_map-append line_of a b
 
-lines_more : (replies : List Reply) (i : ℕ) (r : Reply) → i < length replies → r ≡ get_or replies i r → lines_of (take (i + 1) replies) ≡ lines_of (take i replies) ++ line_of r
+pub lines_more : (replies : List Reply) (i : ℕ) (r : Reply) → i < length replies → r ≡ get_or replies i r → lines_of (take (i + 1) replies) ≡ lines_of (take i replies) ++ line_of r
 lines_more replies i r lt is =
     ap lines_of (take_more replies i r lt ∙ ap (λ (x : Reply). take i replies ++ x ∷ []) (sym is))
     ∙ lines-append (take i replies) (r ∷ []) ∙ ap (λ t. lines_of (take i replies) ++ t) (append-nil (line_of r))

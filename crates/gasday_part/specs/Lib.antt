@@ -2,3 +2,4 @@ pub mod Answers
 pub mod AnswerSeen
 pub mod Output
 pub mod OpenedBooks
+pub mod Inquiries

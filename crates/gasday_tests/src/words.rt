@@ -95,6 +95,12 @@ fn order_name(order: Order<'_>) -> &'static str {
         Order::ArchivedDay("a.db") => "archived day",
         Order::LiveDay("a.db") => "live day",
         Order::BookText("a.db") => "text",
+        Order::Question {
+            file: "a.db",
+            cycle: 3,
+            round: Some(2),
+        } => "question",
+        Order::Carry("a.db") => "carry",
         Order::Audit("a.db") => "audit",
         Order::Migrate("a.db") => "migrate",
         _ => "another file",

@@ -1,0 +1,70 @@
+-- What is printed where something is asked of a gas day's book.
+use Rattle.std.specs.Prelude.{◌≡◌, ◌≢◌, ◌⊎◌, ℕ, List, [], ◌∷◌, Option, Ok}
+use Rattle.std.specs.Io.KnownBytes.{Appends}
+use Rattle.gd_book.specs.Kept.{Kept}
+use Rattle.gd_machine.specs.Day.{Day}
+use Rattle.gd_machine.specs.Headline.{Holds}
+use Rattle.gd_machine.specs.History.{History}
+use Rattle.gd_course.specs.Course.{Runs}
+use Rattle.gd_day.specs.Calls.{Call, calls_of}
+use Rattle.gd_replies.specs.Lines.{lines_of}
+use Rattle.gd_replies.specs.declared.reply.Reply.{Reply}
+use Rattle.gd_replies.specs.declared.reply.Reply.TheVariants as reply
+use Rattle.gd_rounds.specs.Carried.{carry_rows}
+use Rattle.gd_rounds.specs.Rounds.{SaysRound, WasNeverFrozen}
+use Rattle.gd_text_part.specs.Texts.{IsWithin, rows_of}
+use Rattle.gd_text_part.specs.declared.kind.Form.TheVariants as form
+use Rattle.gd_text_part.specs.declared.row.Row.{Row}
+use Rattle.gasday_words.specs.declared.order.Command.TheVariants as command
+use Rattle.gasday_part.specs.Answers.{AnswersBytes, AnswersRows, Told}
+use Rattle.gasday_part.specs.OpenedBooks.{OpensBook}
+use Rattle.gasday_part.specs.Output.{Written}
+use Rattle.gasday_part.specs.declared.inquiry.Inquiry.{Inquiry}
+use Rattle.gasday_part.specs.declared.inquiry.Inquiry.TheVariants as inquiry
+
+-- ---- what is printed
+
+-- the text of the round, with status 0; or that the book was never frozen in such a round, with status 1
+abbrev pub PrintsRound : Day → History → ℕ → Option ℕ → List ℕ → ℕ → Type 0
+PrintsRound day h cycle round text status =
+    (SaysRound day h cycle round text × (status ≡ 0))
+    ⊎ (WasNeverFrozen h cycle round × (text ≡ lines_of (reply.NeverFrozen ∷ [])) × (status ≡ 1))
+
+-- what each line is carried over with, with status 0
+abbrev pub PrintsCarried : Day → History → List ℕ → ℕ → Type 0
+PrintsCarried day h text status = (text ≡ lines_of (carry_rows day h)) × (status ≡ 0)
+
+-- what is printed of a book of this day, with this history
+abbrev pub PrintsInquiry : Day → History → Inquiry → List ℕ → ℕ → Type 0
+PrintsInquiry day h (inquiry.Round cycle round) text status = PrintsRound day h cycle round text status
+PrintsInquiry day h inquiry.Carried text status = PrintsCarried day h text status
+
+-- the history is that behind these calls on a new book, and the headline holds of it
+abbrev pub IsRun : Day → List Call → History → Type 0
+IsRun day calls h = (replies : List Reply) × Runs day [] calls replies h × Holds day h
+
+-- what is printed of a new book behind these calls
+abbrev pub PrintsBehind : Day → List Call → Inquiry → List ℕ → ℕ → Type 0
+PrintsBehind day calls asked text status = (h : History) × IsRun day calls h × PrintsInquiry day h asked text status
+
+-- ---- what is written
+
+-- what is printed was written as a whole, with its status; or something failed, with status 2
+abbrev pub Writes : (List ℕ → ℕ → Type 0) → Option (List ℕ) → Option (List ℕ) → ℕ → Type 0
+Writes prints before behind status = ((text : List ℕ) × prints text status × Appends before behind text) ⊎ (status ≡ 2)
+
+-- what tells that there is no book, as `day` tells it, and not with status 0; or something failed, with status 2
+abbrev pub TellsFaulty : (Told → Type 0) → Option (List ℕ) → Option (List ℕ) → ℕ → Type 0
+TellsFaulty tells before behind status = ((a : Told) × tells a × (a.status ≢ 0) × Written before behind status a) ⊎ (status ≡ 2)
+
+-- What is asked of the book that rows open, behind their calls; or what `day` tells of rows that open none.
+abbrev pub AsksRows : List Row → Inquiry → Option (List ℕ) → Option (List ℕ) → ℕ → Type 0
+AsksRows rows asked before behind status =
+    ((book : Kept) × OpensBook rows book × Writes (PrintsBehind book.day (calls_of rows) asked) before behind status)
+    ⊎ TellsFaulty (AnswersRows command.Day rows) before behind status
+
+-- The same of a text that has rows; or what `day` tells of one that has none.
+abbrev pub AsksText : List ℕ → Inquiry → Option (List ℕ) → Option (List ℕ) → ℕ → Type 0
+AsksText text asked before behind status =
+    ((rows : List Row) × IsWithin text × (rows_of form.Day text ≡ Ok rows) × AsksRows rows asked before behind status)
+    ⊎ TellsFaulty (AnswersBytes command.Day text) before behind status
