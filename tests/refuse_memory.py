@@ -3,6 +3,7 @@
 
 Refuses each allocation of PROGRAM, the built `gasday`, in turn, over a text for each command: it has to print its whole
 answer, or rows at the front of it and perhaps `fault,0,OutOfMemory` (or, for an office, `fault,0,NoThread`), with status 2.
+Of the commands on a book's file, whose allocations are thousands, it is each seventh of a live day, and each 23rd of the others.
 
 TRIAL is the built `gd_book_trials`, which makes each call of a book once more where it found no memory. Whichever
 allocation is refused, it has to tell at the refused call what the book and its board told before it, and else what it
@@ -13,7 +14,8 @@ once more where a slot has no desk. Such a round has to leave the other slot as 
 frozen; where no desk is handed back, each slot as it was or as with ample memory.
 
 The commands with an archive are run once more on the file that they left, with ample memory. What was kept or carried over
-has to be there whole, and what was told as refused not at all.
+has to be there whole, and what was told as refused not at all. So are those on a book's file; and a live day's file has to be
+replayed with all that was told, or to keep no book where nothing was.
 
 A library that is loaded before the C library refuses the allocation: refuse_memory.c, which takes a C compiler, as `cc`. The last
 line is 'N passed, M failed', and the exit status is 0 only where none failed.
@@ -31,6 +33,8 @@ from pathlib import Path
 REFUSING = Path(__file__).resolve().with_name("refuse_memory.c")
 
 FAULTS = (b"OutOfMemory", b"NoThread", b"NoDesks")
+# The file of a trial, in its words.
+FILE = "FILE"
 NO_MEMORY = b"fault,0,OutOfMemory,,,,,\n"
 NO_THREAD = b"fault,0,NoThread,,,,,\n"
 NO_STORE = b"fault,0,Store,,,,,\n"
@@ -151,13 +155,17 @@ class Trial:
         count = int(counted.read_text()) if counted.exists() else 0
         return done.stdout, done.returncode, count
 
+    # Each of so many allocations is refused, where all would take too long.
+    step = 1
+
     def faults(self, is_right):
         """The numbers of the allocations without which it goes wrong, and how many were refused."""
         want, status, count = self.run(0)
+        refused = range(1, count + 1, self.step)
         with ThreadPoolExecutor(os.cpu_count() or 2) as pool:
-            runs = list(pool.map(self.run, range(1, count + 1)))
-        wrong = [n for n, (got, ended, _) in enumerate(runs, 1) if not is_right(want, status, got, ended)]
-        return wrong, count
+            runs = list(pool.map(self.run, refused))
+        wrong = [n for n, (got, ended, _) in zip(refused, runs) if not is_right(want, status, got, ended)]
+        return wrong, len(refused)
 
 
 def is_front(want, status, got, ended):
@@ -226,24 +234,65 @@ def office_goes_on(want, status, got, ended):
     return faults <= 1 and not wanted and ended == status
 
 
-class ArchiveTrial(Trial):
-    """A command on an archive, which each run gets as it was at first."""
+class FileTrial(Trial):
+    """A command on an archive or a book's file, which each run gets as it was at first."""
 
     def __init__(self, library, folder, words, text, first):
         super().__init__(library, folder, words, text)
         self.first = first
 
     def run(self, refused):
-        """As a trial's run; and standard output and exit status of the same command on what is left of the archive."""
-        archive = self.folder / f"{self.words[1]}-{refused}.db"
+        """As a trial's run, and what is found then of the file that is left."""
+        file = self.folder / f"{self.words[1]}-{refused}.db"
         if self.first is not None:
-            archive.write_bytes(self.first)
-        words = [*self.words, str(archive)]
+            file.write_bytes(self.first)
+        words = [str(file) if it == FILE else it for it in self.words]
         told, status, count = Trial(self.library, self.folder, words, self.text.decode()).run(refused)
-        again = subprocess.run(words, input=self.text, capture_output=True, timeout=600)
-        for left in self.folder.glob(f"{archive.name}*"):
+        found = self.found(words, file)
+        for left in self.folder.glob(f"{file.name}*"):
             left.unlink()
-        return (told, (again.stdout, again.returncode)), status, count
+        return (told, found), status, count
+
+    def found(self, words, _):
+        """Standard output and exit status of the same command on what is left."""
+        again = subprocess.run(words, input=self.text, capture_output=True, timeout=600)
+        return again.stdout, again.returncode
+
+
+class BookTrial(FileTrial):
+    """A command that reads a book's file. Most of its allocations are the pages of the file."""
+
+    step = 23
+
+
+class LiveTrial(FileTrial):
+    """A live day, of whose file it is asked what replies its calls have, and whether it is a book."""
+
+    step = 7
+
+    def found(self, words, file):
+        """What `day` tells of the text that the file keeps, and what an audit of it tells, with its exit status."""
+        text = subprocess.run([words[0], "text", file], capture_output=True, timeout=600).stdout
+        told = subprocess.run([words[0], "day"], input=text, capture_output=True, timeout=600).stdout if text[:5] != b"fault" else b""
+        audit = subprocess.run([words[0], "audit", file], capture_output=True, timeout=600)
+        return told, (audit.stdout, audit.returncode)
+
+
+def lives_or_not(want, status, got, ended):
+    """All is told and kept. Or want of memory or a fault of the store is told behind rows at the front, which are kept, in a file
+    that is a book; or nothing is told, and the file keeps none."""
+    (rows, (kept, book)), (told, (left, audit)) = want, got
+    if (told, ended) == (rows, status):
+        return (left, audit) == (kept, book)
+    fault = next((row for row in (NO_MEMORY, NO_STORE) if told.endswith(row)), b"")
+    front = told[: len(told) - len(fault)]
+    if ended != 2 or not rows.startswith(front) or (front and not front.endswith(b"\n")):
+        return False
+    if not audit[0].startswith(b"replayed"):
+        return not front and not left.startswith(b"accepted")
+    opened, _, new = rows.partition(b"\n")
+    former = kept[: len(kept) - len(new)]
+    return left.startswith(former + front[len(opened) + 1 :]) and kept.startswith(left)
 
 
 def keeps_or_not(want, status, got, ended):
@@ -266,6 +315,14 @@ def audits_or_not(want, status, got, ended):
     (told, again) = got
     faults = (b"", NO_MEMORY, NO_STORE)
     return again == want[1] and ((told, ended) == (want[0], status) or (told in faults and ended == 2))
+
+
+def reads_or_not(want, status, got, ended):
+    """The answer, or a front of it with a fault, and then the answer."""
+    (told, again) = got
+    fault = next((row for row in (NO_MEMORY, NO_STORE) if told.endswith(row)), b"")
+    is_part = ended == 2 and want[0].startswith(told[: len(told) - len(fault)])
+    return again == want[1] and ((told, ended) == (want[0], status) or is_part)
 
 
 def migrates_or_not(want, status, got, ended):
@@ -303,9 +360,29 @@ def kept_archive(program, folder):
 def archive_trials(program, library, folder):
     """The commands with an archive, and what each may leave."""
     kept, old = kept_archive(program, folder), old_archive(folder)
-    yield "day --archive", ArchiveTrial(library, folder, [program, "day", "--archive"], KEPT_DAY, None), keeps_or_not
-    yield "audit", ArchiveTrial(library, folder, [program, "audit"], "", kept), audits_or_not
-    yield "migrate", ArchiveTrial(library, folder, [program, "migrate"], "", old), migrates_or_not
+    yield "day --archive", FileTrial(library, folder, [program, "day", "--archive", FILE], KEPT_DAY, None), keeps_or_not
+    yield "audit", FileTrial(library, folder, [program, "audit", FILE], "", kept), audits_or_not
+    yield "migrate", FileTrial(library, folder, [program, "migrate", FILE], "", old), migrates_or_not
+
+
+def kept_book(program, folder, text):
+    """The bytes of the file of a book whose calls these are."""
+    path = folder / "kept.book"
+    subprocess.run([program, "day", "--book", path], input=text.encode(), capture_output=True, check=True)
+    kept = path.read_bytes()
+    path.unlink()
+    return kept
+
+
+def book_trials(program, library, folder):
+    """The commands on a book's file, and what each may leave."""
+    rows = DAY.splitlines(keepends=True)
+    calls = next(at for at, row in enumerate(rows) if row.startswith("freeze"))
+    begun, whole = kept_book(program, folder, "".join(rows[:calls])), kept_book(program, folder, DAY)
+    yield "day --book, a new file", LiveTrial(library, folder, [program, "day", "--book", FILE], DAY, None), lives_or_not
+    yield "day --book, opened again", LiveTrial(library, folder, [program, "day", "--book", FILE], "".join(rows[calls:]), begun), lives_or_not
+    for words in (["text", FILE], ["audit", FILE], ["question", FILE, "1"], ["question", FILE, "2"], ["carry", FILE]):
+        yield f"{words[0]} of a book", BookTrial(library, folder, [program, *words], "", whole), reads_or_not
 
 
 def named_trial(program, library, folder):
@@ -331,6 +408,7 @@ def main():
         trials.append(("a book's day", Trial(library, folder, [trial, "day"], ""), goes_on))
         trials.append(("an office's calls", Trial(library, folder, [office_trial, "office"], ""), office_goes_on))
         trials.extend(archive_trials(program, library, folder))
+        trials.extend(book_trials(program, library, folder))
         for name, trial, is_right in trials:
             wrong, count = trial.faults(is_right)
             print(f"{name}: {count} allocations refused in turn", flush=True)

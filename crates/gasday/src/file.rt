@@ -4,7 +4,8 @@ use gasday_archive::Opener;
 use gasday_words::Order;
 use sqlite::{Connection, Error, ErrorCode, File as StoreFile, FileStore};
 use std::fs::{File, metadata};
-use std::io::Read;
+use std::io;
+use std::io::{ErrorKind, Read};
 
 /// The file that an order names.
 #[derive(Drop)]
@@ -46,16 +47,16 @@ impl<'a> Opener<FileStore<StoreFile>> for NamedFile<'a> {
 }
 
 /// The bytes with which each database of SQLite begins.
-const MAGIC: &[u8] = b"SQLite format 3\0";
+const MAGIC: [u8; 16] = *b"SQLite format 3\0";
 
-/// Whether a file is a database of SQLite. What can't be read is none.
-pub(crate) fn is_database(rt: &HostRuntime, name: &str) -> bool {
-    let mut head = Vec::new(rt.alloc());
-    let Ok(file) = File::open(rt, name) else {
-        return false;
-    };
-    let read = file.take(MAGIC.len() as u64).read_to_end(&mut head);
-    read.is_ok() && head.as_slice() == MAGIC
+/// Whether a file is a database of SQLite, or why it can't be read.
+pub(crate) fn is_database(rt: &HostRuntime, name: &str) -> io::Result<bool> {
+    let mut head = [0; 16];
+    match File::open(rt, name)?.read_exact(&mut head) {
+        Ok(()) => Ok(head == MAGIC),
+        Err(error) if error.kind() == ErrorKind::UnexpectedEof => Ok(false),
+        Err(error) => Err(error),
+    }
 }
 
 /// Closes a file that was opened, and copies its log into it. Where that fails both stay, and what was kept stands in the log.

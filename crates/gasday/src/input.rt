@@ -35,7 +35,7 @@ fn left(bytes: &[u8]) -> u64 {
 }
 
 /// The name by which standard input is one of the files.
-const STANDARD_INPUT: &str = "-";
+pub(crate) const STANDARD_INPUT: &str = "-";
 
 /// Reads what a file has, or standard input, and no more than a text may have behind so many bytes.
 fn read_named(rt: &HostRuntime, name: &str, bytes: &[u8]) -> io::Result<Vec<u8>> {

@@ -18,7 +18,7 @@ mod told;
 
 use crate::book::{ask_over, print_over, serve_over};
 use crate::file::{NamedFile, close, is_database};
-use crate::input::{Text, Unread};
+use crate::input::{STANDARD_INPUT, Text, Unread};
 use crate::noted::Noted;
 use crate::told::{tell_unclosed, tell_unread, tell_unwritten, tell_waiting, tell_why};
 use gasday_archive::{Opener, Outcome, answer_to};
@@ -228,13 +228,23 @@ fn ask<T: Threads + Sync>(
     file: &str,
     inquiry: Inquiry,
 ) -> u8 {
-    if is_database(rt, file) {
-        return ask_file(threads, rt, order, inquiry);
-    }
-    match Text::of_files(rt, &[file]) {
-        Ok(text) => ask_rows(threads, rt, order, inquiry, &text),
+    match named_by(rt, file) {
+        Ok(None) => ask_file(threads, rt, order, inquiry),
+        Ok(Some(text)) => ask_rows(threads, rt, order, inquiry, &text),
         Err(unread) => refuse(rt, order, &unread),
     }
+}
+
+/// The text of a file, or of standard input; `None` of a database.
+fn named_by<'a>(rt: &HostRuntime, file: &'a str) -> Result<Option<Text<'a>>, Unread<'a>> {
+    if file != STANDARD_INPUT {
+        match is_database(rt, file) {
+            Ok(true) => return Ok(None),
+            Ok(false) => {}
+            Err(error) => return Err(Unread::File(file, error)),
+        }
+    }
+    Ok(Some(Text::of_files(rt, &[file])?))
 }
 
 /// Writes the question of a round.
