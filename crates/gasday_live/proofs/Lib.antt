@@ -11,5 +11,6 @@ mod ReadPieces
 mod Running
 mod ServedLines
 mod Stands
+mod TextLengths
 mod ToldRows
 mod Watching

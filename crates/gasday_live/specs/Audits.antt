@@ -12,6 +12,7 @@ use Rattle.gd_replies.specs.declared.reply.Reply.{Reply}
 use Rattle.gd_replies.specs.declared.reply.Reply.TheVariants as reply
 use Rattle.gasday_part.specs.Answers.{Told, one, refused}
 use Rattle.gasday_live.specs.Books.{Blames, Stands}
+use Rattle.gasday_live.specs.Texts.{IsDay}
 
 -- whether a schedule was published
 abbrev pub is_published : BookReply → Bool
@@ -22,7 +23,8 @@ is_published answered = false
 abbrev pub replayed_row : Stand → ℕ → Reply
 replayed_row s calls = reply.Replayed s.day.name calls (length s.history) (count_by (λ e. is_published e.1) s.history)
 
--- The file keeps a book, of whose history the headline holds, and that is told with status 0.
+-- The file keeps a book, of whose history the headline holds, and `day` may answer its text with what the file says was told.
+-- That is told with status 0.
 pub record IsReplayed (was : State) (a : Told) : Type 0 where
   pub pieces : List Piece
   pub keeps : Keeps pieces was.now
@@ -30,6 +32,7 @@ pub record IsReplayed (was : State) (a : Told) : Type 0 where
   pub stand : Stand
   pub stands : Stands pieces calls stand
   pub holds : Holds stand.day stand.history
+  pub is_day : IsDay pieces
   pub told : a ≡ one (replayed_row stand calls) 0
 
 -- Where the file differs from a book is told with status 1, and with status 2 why it can't be read; want of memory isn't.

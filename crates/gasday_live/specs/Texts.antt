@@ -9,9 +9,10 @@ use Rattle.gd_machine.specs.History.{History}
 use Rattle.gd_replies.specs.Lines.{lines_of}
 use Rattle.gd_journal_store.specs.Pieces.{Piece, Keeps}
 use Rattle.gd_serving.specs.Runs.{rows_text, told_text}
+use Rattle.gd_live.specs.Stands.{Stand}
 use Rattle.gasday_words.specs.declared.order.Command.TheVariants as command
 use Rattle.gasday_part.specs.Answers.{Told, AnswersBytes}
-use Rattle.gasday_live.specs.Books.{IsBook}
+use Rattle.gasday_live.specs.Books.{IsBook, Stands}
 
 -- The text that the file keeps was written as a whole, with status 0; or something failed, with status 2.
 abbrev pub Prints : State → Option (List ℕ) → Option (List ℕ) → ℕ → Type 0
@@ -28,3 +29,7 @@ pub record IsDay (ps : List Piece) : Type 0 where
 -- A book's pieces are the text of its day, where that is no longer than a text may be.
 abbrev pub BooksAreDays : Type 0
 BooksAreDays = (ps : List Piece) (day : Day) (h : History) → IsBook ps day h → Holds day h → IsWithin (rows_text ps) → IsDay ps
+
+-- So are those of a book that was made again, with no such premise: there was room for its lines behind the opening.
+abbrev pub KeptBooksAreDays : Type 0
+KeptBooksAreDays = (ps : List Piece) (calls : ℕ) (s : Stand) → Stands ps calls s → Holds s.day s.history → IsDay ps

@@ -11,6 +11,7 @@ ghost use Rattle.gasday_live.specs.Books.{Stands};
 ghost use Rattle.gasday_live.specs.Audits.{Audits, Explains, TellsFault};
 
 use crate::kept::KeptBook;
+use crate::laws::kept_book_is_day;
 use crate::reading::read_book;
 use gasday_part::{Answer, of_one};
 use gd_journal_store::{StoreFault, count};
@@ -84,6 +85,7 @@ pub fn audit_book<S: Alter>(
     match read_all(rt, alloc, conn) {
         Ok(book) => {
             let row = book.replayed();
+            kept_book_is_day();
             drop(book);
             of_one(alloc, row, 0)
         }

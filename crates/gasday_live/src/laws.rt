@@ -1,10 +1,11 @@
 //! Laws of books.
 
 ghost use Rattle.gasday_live.specs.Books.{BooksGrow};
-ghost use Rattle.gasday_live.specs.Texts.{BooksAreDays};
+ghost use Rattle.gasday_live.specs.Texts.{BooksAreDays, KeptBooksAreDays};
 
 use gd_live::{calls_go_on, what_is_kept_are_calls};
 use gd_live_text::calls_follow_their_opening;
+use gd_text_lines::{lines_follow_a_text, row_lines_are_plain};
 
 /// What is kept of lines on a book where no row waits makes it a longer one.
 pub(crate) fn a_book_grows()
@@ -20,4 +21,14 @@ pub fn book_is_day()
     ensures { BooksAreDays }
 {
     calls_follow_their_opening();
+}
+
+/// A book that was made again needs no such premise: there was room for its lines behind the opening, so its text is no longer
+/// than one may be, and `day` may answer it with what was told.
+pub fn kept_book_is_day()
+    ensures { KeptBooksAreDays }
+{
+    book_is_day();
+    row_lines_are_plain();
+    lines_follow_a_text();
 }
