@@ -1,0 +1,99 @@
+//! The two files of a book, on disks in memory that can stop.
+
+ghost use Rattle.std.specs.Thread.{IsSync};
+
+use sqlite::{Alter, Connection, Files, Options};
+use sqlite_disk::{Crash, Disk, Fuse, Memory};
+use std::alloc::Global;
+use std::process::Abort;
+use std::thread::Threads;
+
+/// The log and the file.
+pub(crate) type Disks = Files<Fuse<Memory>>;
+
+/// What is done with a file that is open.
+pub(crate) trait Work {
+    /// Whether all went as the work says.
+    fn is_well<T: Threads + Sync, S: Alter>(
+        &mut self,
+        rt: &T,
+        alloc: Global,
+        conn: &mut Connection<S>,
+    ) -> bool
+        requires { IsSync T.row };
+}
+
+/// A new disk that stops behind so many calls.
+fn new_disk(alloc: Global, calls: u64) -> Fuse<Memory> {
+    Fuse::new(Memory::new(alloc), calls)
+}
+
+/// New disks, each of which stops behind so many calls.
+pub(crate) fn new_disks(alloc: Global, calls: u64) -> Disks {
+    Files {
+        log: new_disk(alloc, calls),
+        db: new_disk(alloc, calls),
+    }
+}
+
+/// Hands a file to some work, whose answer comes with the store.
+fn worked_open<S: Alter + Drop, W: Work>(
+    rt: &(impl Threads + Sync),
+    alloc: Global,
+    mut conn: Connection<S>,
+    work: &mut W,
+) -> (S, bool) {
+    let is_well = work.is_well(rt, alloc, &mut conn);
+    (conn.into_store(), is_well)
+}
+
+/// How a file is opened: with few pages in memory, since it is opened often.
+fn options() -> Options {
+    let mut options = Options::new(1);
+    options.cache_pages = 16;
+    options
+}
+
+/// Hands the file of these disks to some work, whose answer comes with the disks. There is none where it can't be opened.
+fn worked<D: Disk + Drop, W: Work>(
+    rt: &(impl Threads + Sync),
+    alloc: Global,
+    disks: Files<D>,
+    work: &mut W,
+) -> (Files<D>, Option<bool>) {
+    if !disks.may_be_used() {
+        return (disks, None);
+    }
+    match Connection::open_files(alloc, disks, options()) {
+        Ok(conn) => {
+            let (store, is_well) = worked_open(rt, alloc, conn, work);
+            (store.close(), Some(is_well))
+        }
+        Err((_, left)) => (left.into_files(), None),
+    }
+}
+
+/// The same, and a crash behind it, after which the disks do not stop.
+pub(crate) fn crashed<W: Work>(
+    rt: &(impl Threads + Sync),
+    alloc: Global,
+    disks: Disks,
+    work: &mut W,
+) -> (Disks, Option<bool>) {
+    let (mut disks, answer) = worked(rt, alloc, disks, work);
+    disks.log.crash();
+    disks.db.crash();
+    (disks, answer)
+}
+
+/// The disks behind some work that goes well.
+pub(crate) fn behind<W: Work>(
+    rt: &(impl Threads + Sync + Abort),
+    alloc: Global,
+    disks: Disks,
+    work: &mut W,
+) -> Disks {
+    let (disks, answer) = crashed(rt, alloc, disks, work);
+    assert!(rt; answer == Some(true));
+    disks
+}
