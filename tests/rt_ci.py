@@ -4,10 +4,10 @@ Runs `rt ci` in the folder where it is called, as the command itself does, but t
 crate, along every path to them, is kept: the sums alone come to ten minutes of a processor.
 
 With --first-build the order of its work is another: who builds the program waits for the longest chain of crates, each of which
-stands on the one before, while processors idle at its end. So a check has the lower a priority, the shorter the longest chain of
-its crate is, by the seconds that proofs took on one machine (proof_seconds.txt); the crates of each chain that is nearly as long
-as the longest are checked with two jobs, and a program with four, which takes more processor time in all, and less by the clock;
-and both compilers build the program at the same time.
+stands on the one before, while processors idle at its end. So a check has the lower a priority when it begins, the shorter the
+chain is that waits for it beside the longest that is left, by the seconds that proofs took on one machine (proof_seconds.txt);
+where it is nearly as long the crate is checked with two jobs, and a program with four, which takes more processor time in all, and
+less by the clock; and both compilers build the program at the same time.
 """
 
 import os
@@ -22,10 +22,11 @@ from toolchain import remembered, toolchain
 MEASURED = Path(__file__).with_name("proof_seconds.txt")
 # What a check costs that isn't among them: so many seconds, and one more for so many of its crate's lines.
 EACH, LINES = 50, 12
-# From what share of the longest chain on a crate is checked with two jobs.
+# From what share of the longest chain that is left on a crate is checked with two jobs.
 NEARLY = 0.95
-# How much lower the priority of a check is for each hundredth by which its chain is shorter, and at most.
-STEEP, LOWEST = 0.6, 15
+# How much lower the priority of a check is for each hundredth by which its chain is shorter, and at most. Where it is steeper, what
+# can wait is begun and hardly goes on, until all others wait for it.
+STEEP, LOWEST = 0.4, 15
 
 
 def seconds(tasks):
@@ -34,24 +35,20 @@ def seconds(tasks):
     return {key: measured.get(key[0], EACH + task[1] // LINES) for key, task in tasks.items()}
 
 
-def shares(tasks, takes):
-    """How long the longest chain of proofs is on which a proof stands, of the longest of all, for each. A task comes behind those
-    that it waits for, which are its first part."""
-    proofs = {key: (task[0], takes[key]) for key, task in tasks.items() if key[1] == "proof"}
-    before, behind = {}, dict.fromkeys(proofs, 0)
-    for key, (waits, taken) in proofs.items():
-        before[key] = taken + max((before[it] for it in waits), default=0)
+def chains(tasks, takes):
+    """How long the longest chain of proofs is that begins with a proof, for each. A task comes behind those that it waits for, which
+    are its first part."""
+    proofs = {key: takes[key] for key in tasks if key[1] == "proof"}
+    lengths = dict.fromkeys(proofs, 0)
     for key in reversed(proofs):
-        waits, taken = proofs[key]
-        behind[key] += taken
-        for it in waits:
-            behind[it] = max(behind[it], behind[key])
-    longest = max(before.values(), default=1)
-    return {key: (before[key] + behind[key] - taken) / longest for key, (_, taken) in proofs.items()}
+        lengths[key] += proofs[key]
+        for before in tasks[key][0]:
+            lengths[before] = max(lengths[before], lengths[key])
+    return lengths
 
 
 def niceness(share):
-    """That of the check of a crate whose longest chain is such a share of the longest."""
+    """That of a check whose chain is such a share of the longest."""
     return min(LOWEST, int(100 * STEEP * (1 - share)))
 
 
@@ -74,14 +71,20 @@ class Ordered:
         self.others = {}
 
     def run_all(self, tasks):
-        """All tasks, those on long chains before the others."""
+        """All tasks, those that long chains wait for before the others."""
         takes = seconds(tasks)
-        share, last = shares(tasks, takes), [*tasks][-1][0]
+        left, last = chains(tasks, takes), [*tasks][-1][0]
+
+        def worked(key, call, given):
+            share = left.get(key, 0) / max(list(left.values()), default=1)
+            jobs = 4 if key[0] == last else 2 if share >= NEARLY else 1
+            try:
+                return at_priority(niceness(share), call, given, jobs)
+            finally:
+                left.pop(key, None)
 
         def ordered(key, task):
-            part = share.get(key, 0)
-            jobs = 4 if key[0] == last else 2 if part >= NEARLY else 1
-            return (task[0], takes[key], task[2], lambda given, _: at_priority(niceness(part), task[3], given, jobs))
+            return (task[0], takes[key], task[2], lambda given, _: worked(key, task[3], given))
 
         return self.in_lanes({key: ordered(key, task) for key, task in tasks.items()})
 
