@@ -7,12 +7,11 @@ use Rattle.gd_rules.specs.Lines.{Key, lines_of, no_key}
 use Rattle.gd_rules.specs.Schedule.{quantity}
 use Rattle.gd_machine.specs.Asking.{nominations}
 use Rattle.gd_machine.specs.Day.{Day}
-use Rattle.gd_machine.specs.History.{History}
+use Rattle.gd_machine.specs.History.{History, schedules}
 use Rattle.gd_machine.specs.Machine.{IsLegal}
 use Rattle.gd_replies.specs.declared.reply.Reply.{Reply}
-use Rattle.gd_rounds.specs.Carried.{carry_row, carry_rows}
-use Rattle.gd_rounds.specs.Schedules.{last_published}
-use Rattle.gd_rounds.proofs.InEffect.{last_is}
+use Rattle.gd_rounds.specs.Carried.{carry_row, carry_rows, latest}
+use Rattle.gd_rounds.proofs.InEffect.{latest_is}
 use Rattle.gd_rounds.proofs.Numbers.{slice_get_of}
 
 abbrev pub row_at : List Key → List ℕ → ℕ → Reply
@@ -30,7 +29,7 @@ row_more keys quantities n key q rows after row low at amount is so_far pushed =
     pushed ∙ ap₂ (λ rs r. rs ++ r ∷ []) so_far same ∙ sym (map-range_with_len_more (row_at keys quantities) 0 n n (omega arith))
 
 -- of all lines
-pub rows_are : (day : Day) (h : History) → IsLegal day h → (keys : List Key) (quantities : List ℕ) (n : ℕ) → n ≡ length keys → keys ≡ lines_of (nominations day h) → quantities ≡ last_published h → rows_until keys quantities n ≡ carry_rows day h
+pub rows_are : (day : Day) (h : History) → IsLegal day h → (keys : List Key) (quantities : List ℕ) (n : ℕ) → n ≡ length keys → keys ≡ lines_of (nominations day h) → quantities ≡ latest (schedules h) → rows_until keys quantities n ≡ carry_rows day h
 rows_are day h legal keys quantities n all lines published =
     ap (λ k. rows_until keys quantities k) all ∙ ap (λ ks. rows_until ks quantities (length ks)) lines
-    ∙ ap (λ qs. rows_until (lines_of (nominations day h)) qs (length (lines_of (nominations day h)))) (published ∙ last_is day h legal)
+    ∙ ap (λ qs. rows_until (lines_of (nominations day h)) qs (length (lines_of (nominations day h)))) (published ∙ latest_is day h legal)

@@ -1,5 +1,5 @@
 -- What a gas day carries over to the next.
-use Rattle.std.specs.Prelude.{ℕ, ◌-◌, List, length, map}
+use Rattle.std.specs.Prelude.{ℕ, ◌-◌, List, [], length, get_or, map}
 use Rattle.std.specs.List.{range_with_len}
 use Rattle.gd_rules.specs.Lines.{Key, lines_of, line_key}
 use Rattle.gd_machine.specs.Day.{Day}
@@ -7,6 +7,10 @@ use Rattle.gd_machine.specs.History.{History, cycle_of, scheduled}
 use Rattle.gd_machine.specs.Asking.{nominations}
 use Rattle.gd_replies.specs.declared.reply.Reply.{Reply}
 use Rattle.gd_replies.specs.declared.reply.Reply.TheVariants as reply
+
+-- of the schedules in effect by cycle, the last
+abbrev pub latest : List (List ℕ) → List ℕ
+latest schedules = get_or schedules (length schedules - 1) []
 
 -- what a line is scheduled by what was published last, and 0 where nothing was
 abbrev pub in_effect : History → ℕ → ℕ

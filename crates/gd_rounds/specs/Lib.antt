@@ -1,4 +1,3 @@
 pub mod Rounds
 pub mod Outcomes
 pub mod Carried
-pub mod Schedules

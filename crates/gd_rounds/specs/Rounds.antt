@@ -1,11 +1,12 @@
 -- The rounds of a history, and the texts that say them.
-use Rattle.std.specs.Prelude.{◌≡◌, ◌<◌, ◌≤◌, ℕ, Bool, true, false, List, length, take, slice_get, Option, Some, None, Ok, ⊤}
+use Rattle.std.specs.Prelude.{◌≡◌, ◌<◌, ◌≤◌, ℕ, Bool, true, false, List, ◌++◌, length, take, drop, slice_get, Option, Some, None, Ok, ⊤}
 use Rattle.gd_machine.specs.declared.event.Event.{Event}
 use Rattle.gd_machine.specs.declared.event.Event.TheVariants.{Publish, Declare}
 use Rattle.gd_machine.specs.declared.reply.Reply.{Reply}
 use Rattle.gd_machine.specs.Day.{Day}
 use Rattle.gd_machine.specs.History.{History, cycle_of, is_frozen, round_of}
 use Rattle.gd_machine.specs.Asking.{question}
+use Rattle.gd_system.specs.Pipeline.{names_of}
 use Rattle.gd_question.specs.Posing.{Posed}
 use Rattle.gd_certificate.specs.Checked.{Certificate, IsRight}
 use Rattle.gd_certificate.specs.Cutting.{Members}
@@ -16,6 +17,9 @@ use Rattle.gd_text_part.specs.declared.row.Row.{Row}
 use Rattle.gd_text.specs.Members.{members_of}
 use Rattle.gd_text.specs.Prices.{Table, ArePrices, prices_of}
 use Rattle.gd_text.specs.Values.{asked_of, question_of}
+use Rattle.gd_body.specs.Rows.{lines_of, price_rows, question_rows, sched_rows}
+use Rattle.gd_replies.specs.Lines as replies
+use Rattle.gd_replies.specs.Replies.{cut_rows}
 
 -- ---- rounds
 
@@ -51,12 +55,26 @@ WasNeverFrozen h cycle round = (place : ℕ) → ¬ (IsFrozenIn (take place h) c
 
 -- ---- texts
 
+-- the bytes of a question
+abbrev pub question_text : Posed → List ℕ
+question_text q = lines_of (question_rows q)
+
+-- those of a certificate: its question, the quantity of each line, and the prices
+abbrev pub certificate_text : Certificate → List ℕ
+certificate_text c =
+    question_text c.question ++ lines_of (sched_rows c.schedule) ++ lines_of (price_rows (names_of c.question.pipeline) c.prices)
+
+-- those of a question with a set: the rows of a cut behind the first, which tells its excess
+abbrev pub cut_text : Posed → Members → List ℕ
+cut_text q cut = question_text q ++ replies.lines_of (drop 1 (cut_rows q.pipeline cut 0))
+
 -- The text asks this question, as `solve` takes it.
 pub record Asks (q : Posed) (text : List ℕ) : Type 0 where
   pub within : IsWithin text
   pub rows : List Row
   pub reads : rows_of form.Solve text ≡ Ok rows
   pub asks : question_of rows ≡ Ok q
+  pub written : text ≡ question_text q
 
 -- The text asks the question of a certificate, and offers its schedule and prices, as `check best` takes them.
 pub record Certifies (c : Certificate) (text : List ℕ) : Type 0 where
@@ -67,6 +85,7 @@ pub record Certifies (c : Certificate) (text : List ℕ) : Type 0 where
   pub table : Table
   pub prices : prices_of rows c.question.pipeline ≡ Ok table
   pub are : ArePrices table c.prices
+  pub written : text ≡ certificate_text c
 
 -- The text asks this question, and names a set, as `check cut` takes it.
 pub record Refutes (q : Posed) (cut : Members) (text : List ℕ) : Type 0 where
@@ -75,6 +94,7 @@ pub record Refutes (q : Posed) (cut : Members) (text : List ℕ) : Type 0 where
   pub reads : rows_of form.CheckCut text ≡ Ok rows
   pub asks : question_of rows ≡ Ok q
   pub names : members_of rows q.pipeline ≡ Ok cut
+  pub written : text ≡ cut_text q cut
 
 -- The text says the frozen question with what comes next: the schedule that is published, and prices that show it best; or the
 -- set that shows that there is none; or the question alone.

@@ -1,14 +1,13 @@
 //! What a gas day carries over to the next.
 
-ghost use Rattle.std.specs.Prelude.{◌≡◌, ◌++◌, ◌∷◌, [], IfOk, OnOk};
+ghost use Rattle.std.specs.Prelude.{◌≡◌, ◌++◌, ◌∷◌, [], ℕ, List, IfOk, OnOk};
 ghost use Rattle.gd_rules.specs.Lines.{lines_of};
 ghost use Rattle.gd_rules.specs.Schedule.{quantity};
 ghost use Rattle.gd_machine.specs.Asking.{nominations};
 ghost use Rattle.gd_machine.specs.Day.{Day};
-ghost use Rattle.gd_machine.specs.History.{History};
+ghost use Rattle.gd_machine.specs.History.{History, schedules, schedules_after};
 ghost use Rattle.gd_machine.specs.Machine.{IsAccepted, IsLegal};
 ghost use Rattle.gd_rounds.specs.Carried as spec;
-ghost use Rattle.gd_rounds.specs.Schedules as schedules;
 
 use gd_book::{Event, Reply as BookReply};
 use gd_lines::LineKey;
@@ -46,9 +45,10 @@ fn lines_in(alloc: Global, history: &[(Event, BookReply)]) -> Result<Vec<LineKey
     Ok(keys)
 }
 
-/// The quantities that an event publishes, or else the former ones.
+/// The quantities in effect behind an event: those that it publishes, or else the former ones.
 fn published_after<'h>(event: &'h Event, former: &'h [Dth]) -> &'h [Dth]
-    ensures { result.now ≡ schedules.published_after former.now event.now }
+    ensures { (before : List (List ℕ)) → former.now ≡ spec.latest before
+        → result.now ≡ spec.latest (schedules_after before event.now) }
 {
     match event {
         Event::Publish { certificate, .. } => certificate.schedule().quantities(),
@@ -58,7 +58,7 @@ fn published_after<'h>(event: &'h Event, former: &'h [Dth]) -> &'h [Dth]
 
 /// The quantities that were published last, none where no schedule was.
 fn last_published(history: &[(Event, BookReply)]) -> &[Dth]
-    ensures { result.now ≡ schedules.last_published history.now }
+    ensures { result.now ≡ spec.latest (schedules history.now) }
 {
     let mut quantities: &[Dth] = &[];
     'events: for event in history {

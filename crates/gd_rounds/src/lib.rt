@@ -10,3 +10,4 @@ mod text;
 
 pub use carried::carry_replies;
 pub use round::round_text;
+pub use text::write_replies;

@@ -4,7 +4,7 @@ ghost use Rattle.std.specs.Prelude.{◌≡◌, Ok, IsTrue};
 ghost use Rattle.gd_text.specs.Members as members;
 ghost use Rattle.gd_text.specs.Prices as prices;
 ghost use Rattle.gd_text.specs.Values as values;
-ghost use Rattle.gd_rounds.specs.Rounds.{Asks, Certifies, Refutes};
+ghost use Rattle.gd_rounds.specs.Rounds as spec;
 
 use gd_certificate::{Checked, Cut};
 use gd_question::Question;
@@ -68,9 +68,10 @@ fn name_cut(alloc: Global, rows: &[Row], system: &System, cut: &Cut) -> bool
     }
 }
 
-/// Whether a text asks this very question.
+/// Whether the text of a question asks this very question.
 pub(crate) fn asks(alloc: Global, text: &[u8], question: &Question) -> bool
-    ensures { IsTrue result → Asks question.now text.now }
+    requires { text.now ≡ spec.question_text question.now }
+    ensures { IsTrue result → spec.Asks question.now text.now }
 {
     match rows_in(alloc, Form::Solve, text) {
         Ok(rows) => ask(alloc, rows.as_slice(), question),
@@ -78,9 +79,10 @@ pub(crate) fn asks(alloc: Global, text: &[u8], question: &Question) -> bool
     }
 }
 
-/// Whether a text says this very certificate.
+/// Whether the text of a certificate says this very certificate.
 pub(crate) fn certifies(alloc: Global, text: &[u8], certificate: &Checked) -> bool
-    ensures { IsTrue result → Certifies certificate.now text.now }
+    requires { text.now ≡ spec.certificate_text certificate.now }
+    ensures { IsTrue result → spec.Certifies certificate.now text.now }
 {
     match rows_in(alloc, Form::CheckBest, text) {
         Ok(rows) => {
@@ -91,9 +93,10 @@ pub(crate) fn certifies(alloc: Global, text: &[u8], certificate: &Checked) -> bo
     }
 }
 
-/// Whether a text asks this very question, and names this very set.
+/// Whether the text of a question with a set asks this very question, and names this very set.
 pub(crate) fn refutes(alloc: Global, text: &[u8], question: &Question, cut: &Cut) -> bool
-    ensures { IsTrue result → Refutes question.now cut.now text.now }
+    requires { text.now ≡ spec.cut_text question.now cut.now }
+    ensures { IsTrue result → spec.Refutes question.now cut.now text.now }
 {
     match rows_in(alloc, Form::CheckCut, text) {
         Ok(rows) => {
