@@ -1,7 +1,6 @@
 mod Asking
 mod BegunBooks
 mod DayTexts
-mod Failing
 mod Faults
 mod MadeAgain
 mod Making

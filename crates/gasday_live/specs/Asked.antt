@@ -1,5 +1,5 @@
 -- What is written where something is asked of the book that a file keeps.
-use Rattle.std.specs.Prelude.{◌≡◌, ◌⊎◌, ℕ, List, Option}
+use Rattle.std.specs.Prelude.{◌⊎◌, ℕ, List, Option}
 use Rattle.sqlite.specs.State.{State}
 use Rattle.gd_journal_store.specs.Pieces.{Piece, Keeps}
 use Rattle.gd_machine.specs.Headline.{Holds}
@@ -21,9 +21,8 @@ pub record PrintsKept (was : State) (asked : Inquiry) (text : List ℕ) (status 
   pub holds : Holds stand.day stand.history
   pub prints : PrintsInquiry stand.day stand.history asked text status
 
--- What is asked of the file's book is written; or a fault is told; or something failed, with status 2.
+-- What is asked of the file's book was written, or that memory ran out; or a fault was told.
 abbrev pub AsksBook : State → Inquiry → Option (List ℕ) → Option (List ℕ) → ℕ → Type 0
 AsksBook was asked before behind status =
     Writes (PrintsKept was asked) before behind status
     ⊎ ((why : ReplayFault) × Explains was why × WritesTold (TellsFault why) before behind status)
-    ⊎ (status ≡ 2)

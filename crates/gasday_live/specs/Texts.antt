@@ -1,5 +1,5 @@
 -- The text that the file of a book keeps: as it is printed, and as `day` reads it.
-use Rattle.std.specs.Prelude.{◌≡◌, ◌⊎◌, ℕ, List, Option}
+use Rattle.std.specs.Prelude.{◌≡◌, ◌⊎◌, ℕ, List, [], take, Option}
 use Rattle.std.specs.Io.KnownBytes.{Appends}
 use Rattle.sqlite.specs.State.{State}
 use Rattle.gd_text_part.specs.Texts.{IsWithin}
@@ -9,15 +9,23 @@ use Rattle.gd_machine.specs.History.{History}
 use Rattle.gd_replies.specs.Lines.{lines_of}
 use Rattle.gd_journal_store.specs.Pieces.{Piece, Keeps}
 use Rattle.gd_serving.specs.Runs.{rows_text, told_text}
+use Rattle.gd_serving.specs.declared.failure.Failure.{Failure}
 use Rattle.gd_live.specs.Stands.{Stand}
 use Rattle.gasday_words.specs.declared.order.Command.TheVariants as command
 use Rattle.gasday_part.specs.Answers.{Told, AnswersBytes}
 use Rattle.gasday_live.specs.Books.{IsBook, Stands}
+use Rattle.gasday_live.specs.Runs.{TellsFailure}
 
--- The text that the file keeps was written as a whole, with status 0; or something failed, with status 2.
+-- bytes at the front of the text that the file keeps were written; none where it keeps no text
+abbrev pub WritesFront : State → Option (List ℕ) → Option (List ℕ) → Type 0
+WritesFront was before behind =
+    Appends before behind [] ⊎ ((ps : List Piece) × Keeps ps was.now × ((n : ℕ) × Appends before behind (take n (rows_text ps))))
+
+-- The text that the file keeps was written as a whole, with status 0; or bytes at its front, and why no more.
 abbrev pub Prints : State → Option (List ℕ) → Option (List ℕ) → ℕ → Type 0
 Prints was before behind status =
-    ((ps : List Piece) × Keeps ps was.now × Appends before behind (rows_text ps) × (status ≡ 0)) ⊎ (status ≡ 2)
+    ((ps : List Piece) × Keeps ps was.now × Appends before behind (rows_text ps) × (status ≡ 0))
+    ⊎ ((mid : Option (List ℕ)) × WritesFront was before mid × ((why : Failure) × TellsFailure mid behind why status))
 
 -- `day` may answer the text of these pieces with what was told of them, and status 0.
 pub record IsDay (ps : List Piece) : Type 0 where

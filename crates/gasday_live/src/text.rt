@@ -1,13 +1,13 @@
 //! The text that a book's file keeps.
 
-ghost use Rattle.std.specs.Prelude.{◌≡◌, List, map, OnOk};
+ghost use Rattle.std.specs.Prelude.{◌≡◌, ◌≤◌, ℕ, List, length, map, take, OnOk};
 ghost use Rattle.std.specs.Io.KnownBytes.{Appends};
 ghost use Rattle.sqlite.specs.Held.{state};
 ghost use Rattle.sqlite.specs.State.{HasCleanDisk};
 ghost use Rattle.gd_journal_store.specs.Pieces.{Piece as APiece, Keeps, LeavesNoMore};
 ghost use Rattle.gd_journal_store.specs.Seen.{seen};
 ghost use Rattle.gd_serving.specs.Runs.{rows_text};
-ghost use Rattle.gasday_live.specs.Texts.{Prints};
+ghost use Rattle.gasday_live.specs.Texts.{Prints, WritesFront};
 
 use crate::output::tell_failure;
 use gd_journal_store::{Piece, count, pieces};
@@ -22,8 +22,10 @@ const BATCH: u32 = 256;
 
 /// Writes the rows of pieces, one after the other.
 fn write_pieces<W: Write>(writer: &mut W, all: &[Piece]) -> Result<(), Failure>
-    ensures { OnOk result (Appends (W.contents writer.old) (W.contents writer.new)
+    ensures all { OnOk result (Appends (W.contents writer.old) (W.contents writer.new)
         (rows_text (map seen all.now))) }
+    ensures front { (n : ℕ) × (n ≤ length (rows_text (map seen all.now)))
+        × Appends (W.contents writer.old) (W.contents writer.new) (take n (rows_text (map seen all.now))) }
 {
     'pieces: for piece in all {
         let Ok(()) = write_bytes(writer, piece.rows.as_slice()) else {
@@ -38,7 +40,7 @@ fn write_pieces<W: Write>(writer: &mut W, all: &[Piece]) -> Result<(), Failure>
 ///
 /// # Errors
 ///
-/// `Store` where the file can't be read, and `WriteFailed`. Some of the rows may have been written.
+/// `Store` where the file can't be read, and `WriteFailed`. Bytes at the front of the rows may have been written, and no others.
 pub fn write_text<S: Alter, W: Write>(
     alloc: Global,
     conn: &mut Connection<S>,
@@ -47,6 +49,8 @@ pub fn write_text<S: Alter, W: Write>(
     ensures text { HasCleanDisk (state S.Store conn.new) → OnOk result ((ps : List APiece)
         × Keeps ps (state S.Store conn.old).now
         × Appends (W.contents writer.old) (W.contents writer.new) (rows_text ps)) }
+    ensures front { HasCleanDisk (state S.Store conn.new) → WritesFront (state S.Store conn.old)
+        (W.contents writer.old) (W.contents writer.new) }
     ensures any_moment { let new = state S.Store conn.new in HasCleanDisk new
         → LeavesNoMore (state S.Store conn.old) new }
     ensures clean { HasCleanDisk (state S.Store conn.new) → HasCleanDisk (state S.Store conn.old) }

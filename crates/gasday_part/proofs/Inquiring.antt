@@ -1,5 +1,5 @@
 -- What is written of an inquiry, and what tells that there is no book.
-use Rattle.std.proofs.Common.{◌≡◌, ◌∙◌, inl, inr, ℕ, List, Option, Result, Ok, Err, IfOk, refl, sym, subst, ap, arith}
+use Rattle.std.proofs.Common.{◌≡◌, inl, inr, ℕ, List, Option, Result, Ok, Err, IfOk, refl, sym, subst, ap, arith}
 use Rattle.std.specs.Prelude.{◌≢◌, IsErr, string_bytes}
 use Rattle.gd_text_part.specs.Texts.{Tells}
 use Rattle.gd_text_part.specs.declared.fault.RowFault.{RowFault}
@@ -10,7 +10,7 @@ use Rattle.gd_text_part.specs.declared.row.Row.{Row}
 use Rattle.gasday_words.specs.declared.order.Command.TheVariants as command
 use Rattle.gasday_part.specs.AnswerSeen.{answer_seen}
 use Rattle.gasday_part.specs.Answers.{AnswersBytes, AnswersRows, AnswersText, Told, fault_answer, no_memory, one}
-use Rattle.gasday_part.specs.Inquiries.{TellsFaulty, Writes}
+use Rattle.gasday_part.specs.Inquiries.{TellsFaulty, Writes, WritesNoMemory, WritesText}
 use Rattle.gasday_part.specs.OpenedBooks.{ExplainsNoBook, TellsNoBook}
 use Rattle.gasday_part.specs.Output.{Written}
 use Rattle.gasday_part.proofs.Openings.{tells_none}
@@ -19,18 +19,12 @@ use Rattle.gasday_part.specs.declared.inquiry.Printed.{Printed}
 use Rattle.gasday_part.specs.declared.opened.NoBook.{NoBook}
 use Rattle.gasday_part.specs.declared.opened.NoBook.TheVariants as none
 
--- an answer of status 2 is written with it, whatever failed
-pub ends_2 : (before behind : Option (List ℕ)) (status : ℕ) (a : Told) → a.status ≡ 2 → Written before behind status a → status ≡ 2
-ends_2 before behind status a is (inl whole) = whole.1 ∙ is
-ends_2 before behind status a is (inr (inl front)) = front.3
-ends_2 before behind status a is (inr (inr some)) = some.2
-
 module _ (before behind : Option (List ℕ)) (status : ℕ) where
   -- what tells that there is no book was written, or that memory ran out
   pub tells_faulty : {E : Type 0} (tells : Told → Type 0) (r : Result Answer E) → IfOk r (λ a. tells (answer_seen a) × ((answer_seen a).status ≢ 0)) → ((told : Told) → IfOk r (λ a. answer_seen a ≡ told) → Written before behind status told)
       → TellsFaulty tells before behind status
   tells_faulty tells (Ok a) told writes = inl (answer_seen a, told.0, told.1, writes (answer_seen a) refl)
-  tells_faulty tells (Err e) told writes = inr (ends_2 before behind status (one no_memory 2) refl (writes (one no_memory 2) tt))
+  tells_faulty tells (Err e) told writes = inr (writes (one no_memory 2) tt)
 
 -- rows that open no book aren't told with status 0
 pub no_book_not_0 : (why : NoBook) (a : Told) → TellsNoBook why a → a.status ≢ 0
@@ -57,8 +51,6 @@ tells_no_rows view text f (Ok a) reads told = (by f reads told.0 told.1, λ e. l
 
 -- what is printed of a book was written, if it could be made
 pub writes_printed : {E : Type 0} (prints : List ℕ → ℕ → Type 0) (before behind : Option (List ℕ)) (status : ℕ) (r : Result Printed E) → IfOk r (λ it. prints (string_bytes it.text) it.status)
-    → IfOk r (λ it. Writes (λ text n. (text ≡ string_bytes it.text) × (n ≡ it.status)) before behind status) → (IsErr r → status ≡ 2) → Writes prints before behind status
+    → IfOk r (λ it. WritesText (string_bytes it.text) it.status before behind status) → (IsErr r → WritesNoMemory before behind status) → Writes prints before behind status
 writes_printed prints before behind status (Err e) made written short = inr (short refl)
-writes_printed prints before behind status (Ok it) made (inr failed) short = inr failed
-writes_printed prints before behind status (Ok it) made (inl all) short =
-    let (text, is, appends) = all in inl (text, subst (λ n. prints text n) (sym is.1) (subst (λ t. prints t it.status) (sym is.0) made), appends)
+writes_printed prints before behind status (Ok it) made written short = inl (string_bytes it.text, it.status, made, written)

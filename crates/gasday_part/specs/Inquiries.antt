@@ -1,5 +1,5 @@
 -- What is printed where something is asked of a gas day's book.
-use Rattle.std.specs.Prelude.{◌≡◌, ◌≢◌, ◌⊎◌, ℕ, List, [], ◌∷◌, Option, Ok}
+use Rattle.std.specs.Prelude.{◌≡◌, ◌≢◌, ◌⊎◌, ℕ, List, [], ◌∷◌, take, Option, Ok}
 use Rattle.std.specs.Io.KnownBytes.{Appends}
 use Rattle.gd_book.specs.Kept.{Kept}
 use Rattle.gd_machine.specs.Day.{Day}
@@ -16,7 +16,7 @@ use Rattle.gd_text_part.specs.Texts.{IsWithin, rows_of}
 use Rattle.gd_text_part.specs.declared.kind.Form.TheVariants as form
 use Rattle.gd_text_part.specs.declared.row.Row.{Row}
 use Rattle.gasday_words.specs.declared.order.Command.TheVariants as command
-use Rattle.gasday_part.specs.Answers.{AnswersBytes, AnswersRows, Told}
+use Rattle.gasday_part.specs.Answers.{AnswersBytes, AnswersRows, Told, no_memory, one}
 use Rattle.gasday_part.specs.OpenedBooks.{OpensBook}
 use Rattle.gasday_part.specs.Output.{Written}
 use Rattle.gasday_part.specs.declared.inquiry.Inquiry.{Inquiry}
@@ -49,13 +49,25 @@ PrintsBehind day calls asked text status = (h : History) × IsRun day calls h ×
 
 -- ---- what is written
 
--- what is printed was written as a whole, with its status; or something failed, with status 2
-abbrev pub Writes : (List ℕ → ℕ → Type 0) → Option (List ℕ) → Option (List ℕ) → ℕ → Type 0
-Writes prints before behind status = ((text : List ℕ) × prints text status × Appends before behind text) ⊎ (status ≡ 2)
+-- All of a text was written, with the status that goes with it. Or the writer failed, and what was written are bytes at its front.
+abbrev pub WritesText : List ℕ → ℕ → Option (List ℕ) → Option (List ℕ) → ℕ → Type 0
+WritesText text printed before behind status =
+    (Appends before behind text × (status ≡ printed)) ⊎ ((n : ℕ) × Appends before behind (take n text) × (status ≡ 2))
 
--- what tells that there is no book, as `day` tells it, and not with status 0; or something failed, with status 2
+-- what was written where memory ran out before anything was
+abbrev pub WritesNoMemory : Option (List ℕ) → Option (List ℕ) → ℕ → Type 0
+WritesNoMemory before behind status = Written before behind status (one no_memory 2)
+
+-- what is printed was written; or that memory ran out
+abbrev pub Writes : (List ℕ → ℕ → Type 0) → Option (List ℕ) → Option (List ℕ) → ℕ → Type 0
+Writes prints before behind status =
+    ((text : List ℕ) × (printed : ℕ) × prints text printed × WritesText text printed before behind status)
+    ⊎ WritesNoMemory before behind status
+
+-- what tells that there is no book was written, as `day` tells it, and not with status 0; or that memory ran out
 abbrev pub TellsFaulty : (Told → Type 0) → Option (List ℕ) → Option (List ℕ) → ℕ → Type 0
-TellsFaulty tells before behind status = ((a : Told) × tells a × (a.status ≢ 0) × Written before behind status a) ⊎ (status ≡ 2)
+TellsFaulty tells before behind status =
+    ((a : Told) × tells a × (a.status ≢ 0) × Written before behind status a) ⊎ WritesNoMemory before behind status
 
 -- What is asked of the book that rows open, behind their calls; or what `day` tells of rows that open none.
 abbrev pub AsksRows : List Row → Inquiry → Option (List ℕ) → Option (List ℕ) → ℕ → Type 0

@@ -16,7 +16,7 @@ use gd_board::Board;
 use gd_book::{Book, Replay};
 use gd_course::run;
 use gd_replies::Reply;
-use gd_rounds::{carry_replies, round_text};
+use gd_rounds::{carry_replies, round_text, write_replies};
 use gd_text_part::{Form, Row, rows_in, write_bytes};
 use gd_units::{CycleNo, Round};
 use std::alloc::{AllocError, Global};
@@ -52,9 +52,7 @@ fn text_of(alloc: Global, rows: &[Reply]) -> Result<String, AllocError>
     ensures { IfOk result (λ text. string_bytes text ≡ lines_of rows.now) }
 {
     let mut text = String::new(alloc);
-    'rows: for row in rows {
-        write!(text, "{row}")?;
-    }
+    write_replies(&mut text, rows)?;
     Ok(text)
 }
 
@@ -131,9 +129,9 @@ pub fn write_printed<W: Write>(
     writer: &mut W,
     printed: Result<Printed, AllocError>,
 ) -> Written
-    ensures written { IfOk printed (λ it. spec.Writes (λ text status. (text ≡ string_bytes it.text) × (status ≡ it.status))
+    ensures written { IfOk printed (λ it. spec.WritesText (string_bytes it.text) it.status
         (W.contents writer.old) (W.contents writer.new) result.status) }
-    ensures short { IsErr printed → result.status ≡ 2 }
+    ensures short { IsErr printed → spec.WritesNoMemory (W.contents writer.old) (W.contents writer.new) result.status }
 {
     match printed {
         Ok(Printed { text, status, last }) => match write_bytes(writer, text.as_bytes()) {

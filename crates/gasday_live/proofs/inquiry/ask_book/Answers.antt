@@ -1,4 +1,3 @@
-use Rattle.std.proofs.Common.{inr}
 use Rattle.sqlite.specs.Held.{state}
 use Rattle.gasday_live.proofs.Asking.{tells_fault}
 use Rattle.gasday_live.proofs.inquiry.ask_book.Goals as goal
@@ -6,4 +5,4 @@ use Rattle.gasday_live.proofs.inquiry.ask_book.Goals as goal
 pub returns-in-Err-clause-asked : goal.returns-in-Err-clause-asked
 returns-in-Err-clause-asked g c clean =
     let was = state g.S.Store c.args.conn.now in
-    inr (tells_fault was _ _ _ c.in-Err.why c.of_replay_fault.result (c.in-Err.ensures.differs clean) c.of_replay_fault.ensures c.write_rows.ensures)
+    tells_fault was c.args.inquiry _ _ _ c.in-Err.why c.of_replay_fault.result (c.in-Err.ensures.differs clean) c.of_replay_fault.ensures c.write_rows.ensures

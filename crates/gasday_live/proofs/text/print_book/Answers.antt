@@ -1,6 +1,8 @@
 use Rattle.std.proofs.Common.{inl, inr, refl}
 use Rattle.std.proofs.KnownBytes.{Appends-kept}
-use Rattle.gasday_live.proofs.Failing.{failure_ends_2}
+use Rattle.sqlite.specs.Held.{state}
+use Rattle.gd_serving.specs.declared.failure.Failure.TheVariants.{WriteFailed}
+use Rattle.gasday_live.proofs.ReadPieces.{front_kept}
 use Rattle.gasday_live.proofs.text.print_book.Goals as goal
 
 pub returns-else-is_err-clause-printed : goal.returns-else-is_err-clause-printed
@@ -9,4 +11,10 @@ returns-else-is_err-clause-printed g c clean =
     inl (ps, keeps, Appends-kept _ _ _ _ all c.flush.ensures.bytes, refl)
 
 pub returns-in-Err-clause-printed : goal.returns-in-Err-clause-printed
-returns-in-Err-clause-printed g c clean = inr (failure_ends_2 _ _ c.in-Err.why c.tell_failure.result c.tell_failure.ensures)
+returns-in-Err-clause-printed g c clean =
+    inr (g.W.Write.contents c.write_text.new.writer, c.write_text.ensures.front clean, (c.in-Err.why, c.tell_failure.ensures))
+
+pub returns-then-is_err-clause-printed : goal.returns-then-is_err-clause-printed
+returns-then-is_err-clause-printed g c clean =
+    let front = front_kept (state g.S.Store c.args.conn.now) _ _ _ (c.write_text.ensures.front clean) c.flush.ensures.bytes in
+    inr (g.W.Write.contents c.flush.new.self, front, (WriteFailed, (refl, refl)))
