@@ -1,5 +1,5 @@
 -- What is done with the file of a book, and what is written of it.
-use Rattle.std.specs.Prelude.{◌≡◌, ◌⊎◌, ℕ, List, Option, Some, None, Result, Ok, Err}
+use Rattle.std.specs.Prelude.{◌≡◌, ◌⊎◌, ◌≤◌, ℕ, List, Option, Some, None, IfSome, Result, Ok, Err, ⊤}
 use Rattle.sqlite_trees.specs.declared.store.Store.{Ghosts}
 use Rattle.sqlite.specs.Held.{Held, state}
 use Rattle.sqlite.specs.State.{HasCleanDisk}
@@ -8,9 +8,24 @@ use Rattle.gd_replies.specs.declared.reply.Reply.TheVariants as reply
 use Rattle.gasday_part.specs.Answers.{one}
 use Rattle.gasday_part.specs.Output.{WritesTold}
 use Rattle.gasday_part.specs.declared.inquiry.Inquiry.{Inquiry}
+use Rattle.gasday_part.specs.declared.inquiry.Inquiry.TheVariants as inquiry
+use Rattle.gasday_words.specs.Meaning.{most_rounds}
+use Rattle.gasday_words.specs.Ordered.{Ordered, Question, Carry}
 use Rattle.gasday_live.specs.Asked.{AsksBook}
 use Rattle.gasday_live.specs.Runs.{Runs}
 use Rattle.gasday_live.specs.Texts.{Prints}
+
+-- this is what an order asks of a book
+abbrev pub AsksFor : Ordered → Inquiry → Type 0
+AsksFor (Question file cycle round) asked = asked ≡ inquiry.Round cycle round
+AsksFor (Carry file) asked = asked ≡ inquiry.Carried
+AsksFor order asked = ⊥
+
+-- the order asks something, by the number of a cycle, and of a round where it names one
+abbrev pub IsInquiry : Ordered → Type 0
+IsInquiry (Question file cycle round) = (1 ≤ cycle) × (cycle ≤ 5) × IfSome round (λ n. (1 ≤ n) × (n ≤ most_rounds))
+IsInquiry (Carry file) = ⊤
+IsInquiry order = ⊥
 
 -- a file that can't be opened is told so, or that another process has it
 abbrev pub TellsUnopened : Option (List ℕ) → Option (List ℕ) → ℕ → Type 0

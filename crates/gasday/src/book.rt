@@ -1,18 +1,42 @@
 //! Orders on the file of a book.
 
-ghost use Rattle.std.specs.Prelude.{◌≡◌, ◌⊎◌};
+ghost use Rattle.std.specs.Prelude.{◌≡◌, ◌⊎◌, ◌≢◌, IfSome};
+ghost use Rattle.gasday_words.specs.Ordered.{seen};
 ghost use Rattle.gd_replies.specs.declared.reply.Reply.TheVariants as reply;
-ghost use Rattle.gasday.specs.Files.{AsksFile, PrintsFile, ServesFile, TellsUnopened};
+ghost use Rattle.gasday.specs.Files.{AsksFile, AsksFor, IsInquiry, PrintsFile, ServesFile, TellsUnopened};
 
 use crate::Ran;
 use gasday_archive::Opener;
 use gasday_live::{ask_book, print_book, serve_book};
 use gasday_part::{Inquiry, Written, last_of, of_one, write_answer};
+use gasday_words::Order;
 use gd_replies::Reply;
+use gd_units::{CycleNo, Round};
 use sqlite::{Alter, Error, ErrorCode};
 use std::alloc::Global;
 use std::io::{Read, Write};
 use std::thread::Threads;
+
+/// What an order asks of a book. `None` of one that asks nothing, or names a cycle or a round that can't be.
+pub(crate) fn inquiry_of(order: Order<'_>) -> Option<Inquiry>
+    ensures asks { IfSome result (AsksFor (seen order.entry)) }
+    ensures all { IsInquiry (seen order.entry) → result ≢ None }
+{
+    match order {
+        Order::Question {
+            cycle,
+            round: None,
+            ..
+        } => Some(Inquiry::Round(CycleNo::new(cycle)?, None)),
+        Order::Question {
+            cycle,
+            round: Some(number),
+            ..
+        } => Some(Inquiry::Round(CycleNo::new(cycle)?, Some(Round::new(number)?))),
+        Order::Carry(_) => Some(Inquiry::Carried),
+        _ => None,
+    }
+}
 
 /// The row of a file that can't be opened.
 fn unopened_row(error: &Error) -> Reply

@@ -1,8 +1,10 @@
 //! The file that an order names: an archive's, or a book's.
 
+use crate::told::tell_unopened;
 use gasday_archive::Opener;
 use gasday_words::Order;
 use sqlite::{Connection, Error, ErrorCode, File as StoreFile, FileStore};
+use std::alloc::AllocError;
 use std::fs::{File, metadata};
 use std::io;
 use std::io::{ErrorKind, Read};
@@ -15,7 +17,25 @@ pub(crate) struct NamedFile<'a> {
 }
 
 impl<'a> NamedFile<'a> {
-    /// The name of the file. A gas day makes it where there is none; who audits, migrates or prints one names one that is there.
+    /// Tells people why a file can't be opened, where there was memory for that.
+    fn tell(&self, name: &str, why: Result<String, AllocError>) {
+        if let Ok(why) = why {
+            tell_unopened(self.rt, name, why.as_str());
+        }
+    }
+
+    /// The name of a file that is there and has something, or people are told what is wrong with it.
+    fn present(&self, file: &'a str) -> Option<&'a str> {
+        match metadata(self.rt, file) {
+            Ok(found) if found.is_dir() => tell_unopened(self.rt, file, "it is a folder"),
+            Ok(found) if found.len() == 0 => tell_unopened(self.rt, file, "it is empty"),
+            Ok(_) => return Some(file),
+            Err(error) => self.tell(file, error.to_string(self.rt.alloc())),
+        }
+        None
+    }
+
+    /// The name of the file. A gas day makes it where there is none; who audits, migrates, prints or asks one names one that is there.
     fn name(&self) -> Option<&'a str> {
         match self.order {
             Order::Text(_) | Order::ArchivedDay("") | Order::LiveDay("") => None,
@@ -24,10 +44,16 @@ impl<'a> NamedFile<'a> {
             | Order::Migrate(file)
             | Order::BookText(file)
             | Order::Question { file, .. }
-            | Order::Carry(file) => match metadata(self.rt, file) {
-                Ok(found) if found.len() > 0 => Some(file),
-                _ => None,
-            },
+            | Order::Carry(file) => self.present(file),
+        }
+    }
+
+    /// Tells people why the file can't be opened. That another process has it is told by its row.
+    fn tell_why(&self, name: &str, error: &Error) {
+        match (metadata(self.rt, name), error) {
+            (_, Error::SqliteFailure(ErrorCode::DatabaseBusy)) => {}
+            (Ok(found), _) if found.is_dir() => tell_unopened(self.rt, name, "it is a folder"),
+            _ => self.tell(name, error.to_string(self.rt.alloc())),
         }
     }
 }
@@ -39,9 +65,15 @@ impl<'a> Opener<FileStore<StoreFile>> for NamedFile<'a> {
     ghost opens = { λ file opened. ⊤ };
 
     fn open(self) -> Result<Connection<FileStore<StoreFile>>, Error> {
-        match self.name() {
-            Some(name) => Connection::open(self.rt, name),
-            None => Err(Error::SqliteFailure(ErrorCode::CannotOpen)),
+        let Some(name) = self.name() else {
+            return Err(Error::SqliteFailure(ErrorCode::CannotOpen));
+        };
+        match Connection::open(self.rt, name) {
+            Ok(conn) => Ok(conn),
+            Err(error) => {
+                self.tell_why(name, &error);
+                Err(error)
+            }
         }
     }
 }

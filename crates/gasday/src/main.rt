@@ -16,7 +16,7 @@ mod input;
 mod noted;
 mod told;
 
-use crate::book::{ask_over, print_over, serve_over};
+use crate::book::{ask_over, inquiry_of, print_over, serve_over};
 use crate::file::{NamedFile, close, is_database};
 use crate::input::{STANDARD_INPUT, Text, Unread};
 use crate::noted::Noted;
@@ -27,7 +27,6 @@ use gasday_part::{Inquiry, Written, ask_text, last_of, of_fault, write_answer};
 use gasday_words::{Command, Order, Request, UsageFault, request_of};
 use gd_replies::Reply;
 use gd_text_part::TextFault;
-use gd_units::{CycleNo, Round};
 use sqlite::{Alter, Connection, Error, File, FileStore};
 use std::alloc::Global;
 use std::io::{Read, Write};
@@ -129,9 +128,12 @@ fn end(
     unwritten: Option<&io::Error>,
 ) -> u8 {
     let (status, last) = (ran.status, ran.last);
+    let is_unopened = ran.file.is_none();
     let status = closed(rt, order, close(ran.file), status);
     match (unwritten, last) {
         (Some(error), _) => tell_unwritten(rt, error),
+        // (Whoever couldn't open the file has told why.)
+        (None, Some(Reply::Store)) if is_unopened => {}
         (None, Some(last)) if status != 0 => tell_why(rt, order, text, &last),
         _ => {}
     }
@@ -220,14 +222,12 @@ fn ask_rows<T: Threads + Sync>(
     end(rt, order, text, ran, writer.error())
 }
 
-/// Writes what is asked of the book of a file: a database's, or a text's.
-fn ask<T: Threads + Sync>(
-    threads: &T,
-    rt: &HostRuntime,
-    order: Order<'_>,
-    file: &str,
-    inquiry: Inquiry,
-) -> u8 {
+/// Writes what an order asks of the book of a file: a database's, or a text's.
+fn ask<T: Threads + Sync>(threads: &T, rt: &HostRuntime, order: Order<'_>, file: &str) -> u8 {
+    // (What is no cycle or round is a usage fault, of which there is no request.)
+    let Some(inquiry) = inquiry_of(order) else {
+        return 2;
+    };
     match named_by(rt, file) {
         Ok(None) => ask_file(threads, rt, order, inquiry),
         Ok(Some(text)) => ask_rows(threads, rt, order, inquiry, &text),
@@ -245,25 +245,6 @@ fn named_by<'a>(rt: &HostRuntime, file: &'a str) -> Result<Option<Text<'a>>, Unr
         }
     }
     Ok(Some(Text::of_files(rt, &[file])?))
-}
-
-/// Writes the question of a round.
-fn ask_round<T: Threads + Sync>(
-    threads: &T,
-    rt: &HostRuntime,
-    order: Order<'_>,
-    file: &str,
-    cycle: u8,
-    round: Option<u32>,
-) -> u8 {
-    let round = match round {
-        Some(number) => Round::new(number),
-        None => None,
-    };
-    match CycleNo::new(cycle) {
-        Some(cycle) => ask(threads, rt, order, file, Inquiry::Round(cycle, round)),
-        None => 2,
-    }
 }
 
 /// Tells why a text was not read, and answers the exit status.
@@ -301,10 +282,7 @@ fn carry_out<T: Threads + Wait + Clock + Sync>(
     match request.order {
         Order::LiveDay(_) => serve(threads, rt, request),
         Order::BookText(_) => print(rt, request.order),
-        Order::Question { file, cycle, round } => {
-            ask_round(threads, rt, request.order, file, cycle, round)
-        }
-        Order::Carry(file) => ask(threads, rt, request.order, file, Inquiry::Carried),
+        Order::Question { file, .. } | Order::Carry(file) => ask(threads, rt, request.order, file),
         order => match text_of(rt, request) {
             Ok(text) => answer(threads, rt, order, &text),
             Err(unread) => refuse(rt, order, &unread),

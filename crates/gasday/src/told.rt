@@ -30,6 +30,13 @@ pub(crate) fn tell_unwritten(rt: &HostRuntime, error: &io::Error) {
     }
 }
 
+/// Tells that the file of an order can't be opened, and why.
+pub(crate) fn tell_unopened(rt: &HostRuntime, name: &str, why: &str) {
+    if let Ok(message) = format!(in rt.alloc(); "can't open {name}: {why}") {
+        tell(rt, message.as_str());
+    }
+}
+
 /// Tells why a text was not read.
 pub(crate) fn tell_unread(rt: &HostRuntime, order: Order<'_>, unread: &Unread<'_>) {
     match unread {

@@ -16,9 +16,10 @@ Examples:
 pub(crate) const LONG: &str = "With no command it does what 'check allowed' does.
 
 A text may stand in several files, which are read in their order, each ended by a line break if it has
-none: 'gasday solve net.csv day.csv'. Without a name it is read from standard input. Of files that can't
-be read nothing is answered, and standard error tells why. What goes wrong is told to people, too, on
-standard error, with the line of the text as an editor counts it.
+none: 'gasday solve net.csv day.csv'. Without a name it is read from standard input, which may also stand
+among the files: 'gasday solve net.csv - < day.csv'. Of files that can't be read nothing is answered, and
+standard error tells why. What goes wrong is told to people, too, on standard error, with the line of the
+text as an editor counts it.
 
 Examples:
   gasday check allowed examples/two-lines.csv
@@ -504,7 +505,7 @@ Where the book was never frozen so it prints
   NotFrozen           The book was never frozen in this cycle, or not in this round of it. The frozen
                       rows that were told name the rounds. Status 1.
 What is wrong with FILE is told as day tells it of a text, and as audit does of a book's file.
-It reads nothing from standard input.
+Of standard input it reads a text where FILE is -, and else nothing.
 
 Examples:
   gasday question 0308.book 2
@@ -524,7 +525,7 @@ that stands behind the day row in the text of the next gas day. QUANTITY is what
 what was published last, and 0 where nothing was. FILE is the text of the gas day, as day takes it, or the
 file of a book that day --book serves. What is wrong with FILE is told as day tells it of a text, and as
 audit does of a book's file.
-It reads nothing from standard input.
+Of standard input it reads a text where FILE is -, and else nothing.
 
 Example:
   gasday carry 0308.book > carry.csv

@@ -27,7 +27,8 @@ each load is within its capacity, and each pool is in balance;
 best: prices show that no allowed schedule is better;
 cut: a set of places, points and pools shows that no schedule is allowed";
 
-const HELP_OF_TEXTS: &str = "the files that make up the text, in order; standard input without any";
+const HELP_OF_TEXTS: &str =
+    "the files that make up the text, in order; - or no name is standard input";
 
 /// A command of this name, before it takes words, with the texts of its help.
 fn command<'a>(
