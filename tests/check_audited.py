@@ -36,7 +36,8 @@ DOCUMENT = HOME / "docs" / "AUDIT.md"
 DEFINITIONS = HOME / "docs" / "DEFINITIONS.md"
 ANSWER, WRITE = ("gasday_part", "answer_of"), ("gasday_part", "write_answer")
 ANSWER_ORDER, ANSWER_OFFICE = ("gasday_archive", "answer_to"), ("gasday_office", "answer_office")
-BOOKS = tuple(("gasday_live", name) for name in ("serve_book", "audit_book", "print_book", "book_is_day", "kept_book_is_day"))
+LAWS_OF_BOOKS = ("book_is_day", "kept_book_is_day", "served_book_is_day")
+BOOKS = tuple(("gasday_live", name) for name in ("serve_book", "audit_book", "print_book", *LAWS_OF_BOOKS))
 # Each path by its letter: its name, its statements, and the commands that it is for.
 PATHS = {
     "a": ("Best", (("gd_rules", "prices_show_best"), ("gd_rules", "cut_forbids")), ()),

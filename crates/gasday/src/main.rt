@@ -119,98 +119,136 @@ fn write_fault<W: Write>(alloc: Global, fault: TextFault, writer: &mut W) -> u8
     write_answer(alloc, writer, &of_fault(alloc, fault))
 }
 
+/// An order that has ended: how, with the text that it was about, and why not all could be written, if it is so.
+#[derive(Drop)]
+struct Ended<'a, S: Alter + Drop> {
+    ran: Ran<S>,
+    text: Text<'a>,
+    unwritten: Option<io::Error>,
+}
+
 /// Closes the file of an order that has ended, tells people why it didn't end well, and answers the exit status.
-fn end(
-    rt: &HostRuntime,
-    order: Order<'_>,
-    text: &Text<'_>,
-    ran: Ran<FileStore<File>>,
-    unwritten: Option<&io::Error>,
-) -> u8 {
-    let (status, last) = (ran.status, ran.last);
-    let is_unopened = ran.file.is_none();
-    let status = closed(rt, order, close(ran.file), status);
-    match (unwritten, last) {
+///
+/// What comes before is written for any store and opener: to prove a call over the program's own takes the prover as long as ten
+/// of those.
+fn end(rt: &HostRuntime, order: Order<'_>, ended: Ended<'_, FileStore<File>>) -> u8 {
+    let Ran { status, last, file } = ended.ran;
+    let is_unopened = file.is_none();
+    let status = closed(rt, order, close(file), status);
+    match (&ended.unwritten, last) {
         (Some(error), _) => tell_unwritten(rt, error),
         // (Whoever couldn't open the file has told why.)
         (None, Some(Reply::Store)) if is_unopened => {}
-        (None, Some(last)) if status != 0 => tell_why(rt, order, text, &last),
+        (None, Some(last)) if status != 0 => tell_why(rt, order, &ended.text, &last),
         _ => {}
     }
     status
 }
 
-/// Answers a text on standard output, and tells people why where the answer isn't good. Answers the exit status.
-fn answer<T: Threads + Wait + Clock + Sync>(
+/// Answers a text on standard output.
+fn answer<'a, T: Threads + Wait + Clock + Sync, S: Alter + Drop, O: Opener<S>>(
     threads: &T,
     rt: &HostRuntime,
-    order: Order<'_>,
-    text: &Text<'_>,
-) -> u8
+    order: Order<'a>,
+    text: Text<'a>,
+    file: O,
+) -> Ended<'a, S>
     requires { IsAnswered (seen order) }
 {
     let mut writer = Noted::new(io::writer(rt));
-    let file = NamedFile { rt, order };
     let bytes = text.bytes.as_slice();
     let ran = run_over(threads, rt.alloc(), order, bytes, &mut writer, file);
-    end(rt, order, text, ran, writer.error())
+    Ended {
+        ran,
+        text,
+        unwritten: writer.take_error(),
+    }
 }
 
 /// Serves the lines of a reader on the book of an order's file.
-fn serve_lines<T: Threads + Sync, R: Read + Drop>(
+fn serve_lines<T: Threads + Sync, S: Alter + Drop, O: Opener<S>, R: Read + Drop>(
     threads: &T,
     rt: &HostRuntime,
-    order: Order<'_>,
-    text: &Text<'_>,
     reader: R,
-) -> u8 {
+    file: O,
+) -> (Ran<S>, Option<io::Error>) {
     let mut writer = Noted::new(io::writer(rt));
-    let file = NamedFile { rt, order };
     let ran = serve_over(threads, rt.alloc(), reader, &mut writer, file);
-    end(rt, order, text, ran, writer.error())
+    (ran, writer.take_error())
 }
 
-/// Serves the lines of the files that a request names, or of standard input as they come.
-fn serve<T: Threads + Sync>(threads: &T, rt: &HostRuntime, request: &Request<'_>) -> u8 {
+/// Serves the lines of standard input as they come.
+fn serve_input<'a, T: Threads + Sync, S: Alter + Drop, O: Opener<S>>(
+    threads: &T,
+    rt: &HostRuntime,
+    file: O,
+) -> Ended<'a, S> {
+    tell_waiting(rt);
+    let (ran, unwritten) = serve_lines(threads, rt, rt.reader(), file);
+    Ended {
+        ran,
+        text: Text::empty(rt),
+        unwritten,
+    }
+}
+
+/// Serves the lines of the files that a request names, or of standard input.
+fn serve<'a, T: Threads + Sync, S: Alter + Drop, O: Opener<S>>(
+    threads: &T,
+    rt: &HostRuntime,
+    request: &Request<'a>,
+    file: O,
+) -> Ended<'a, S> {
     if request.texts.is_empty() {
-        tell_waiting(rt);
-        return serve_lines(threads, rt, request.order, &Text::empty(rt), rt.reader());
+        return serve_input(threads, rt, file);
     }
     match Text::of_files(rt, request.texts.as_slice()) {
-        Ok(text) => serve_lines(threads, rt, request.order, &text, text.bytes.as_slice()),
+        Ok(text) => {
+            let (ran, unwritten) = serve_lines(threads, rt, text.bytes.as_slice(), file);
+            Ended {
+                ran,
+                text,
+                unwritten,
+            }
+        }
         Err(unread) => refuse(rt, request.order, &unread),
     }
 }
 
 /// Prints the text that the file of an order keeps.
-fn print(rt: &HostRuntime, order: Order<'_>) -> u8 {
+fn print<'a, S: Alter + Drop, O: Opener<S>>(rt: &HostRuntime, file: O) -> Ended<'a, S> {
     let mut writer = Noted::new(io::writer(rt));
-    let file = NamedFile { rt, order };
     let ran = print_over(rt.alloc(), &mut writer, file);
-    end(rt, order, &Text::empty(rt), ran, writer.error())
+    Ended {
+        ran,
+        text: Text::empty(rt),
+        unwritten: writer.take_error(),
+    }
 }
 
 /// Writes what is asked of the book of an order's file, a database.
-fn ask_file<T: Threads + Sync>(
+fn ask_file<'a, T: Threads + Sync, S: Alter + Drop, O: Opener<S>>(
     threads: &T,
     rt: &HostRuntime,
-    order: Order<'_>,
     inquiry: Inquiry,
-) -> u8 {
+    file: O,
+) -> Ended<'a, S> {
     let mut writer = Noted::new(io::writer(rt));
-    let file = NamedFile { rt, order };
     let ran = ask_over(threads, rt.alloc(), inquiry, &mut writer, file);
-    end(rt, order, &Text::empty(rt), ran, writer.error())
+    Ended {
+        ran,
+        text: Text::empty(rt),
+        unwritten: writer.take_error(),
+    }
 }
 
 /// Writes what is asked of the book of a text.
-fn ask_rows<T: Threads + Sync>(
+fn ask_rows<'a, T: Threads + Sync, S: Alter + Drop>(
     threads: &T,
     rt: &HostRuntime,
-    order: Order<'_>,
     inquiry: Inquiry,
-    text: &Text<'_>,
-) -> u8 {
+    text: Text<'a>,
+) -> Ended<'a, S> {
     let mut writer = Noted::new(io::writer(rt));
     let bytes = text.bytes.as_slice();
     let Written { status, last } = ask_text(threads, rt.alloc(), bytes, inquiry, &mut writer);
@@ -219,18 +257,28 @@ fn ask_rows<T: Threads + Sync>(
         last,
         file: None,
     };
-    end(rt, order, text, ran, writer.error())
+    Ended {
+        ran,
+        text,
+        unwritten: writer.take_error(),
+    }
 }
 
 /// Writes what an order asks of the book of a file: a database's, or a text's.
-fn ask<T: Threads + Sync>(threads: &T, rt: &HostRuntime, order: Order<'_>, file: &str) -> u8 {
+fn ask<'a, T: Threads + Sync, S: Alter + Drop, O: Opener<S>>(
+    threads: &T,
+    rt: &HostRuntime,
+    order: Order<'a>,
+    name: &'a str,
+    file: O,
+) -> Ended<'a, S> {
     // (What is no cycle or round is a usage fault, of which there is no request.)
     let Some(inquiry) = inquiry_of(order) else {
-        return 2;
+        return failed(rt);
     };
-    match named_by(rt, file) {
-        Ok(None) => ask_file(threads, rt, order, inquiry),
-        Ok(Some(text)) => ask_rows(threads, rt, order, inquiry, &text),
+    match named_by(rt, name) {
+        Ok(None) => ask_file(threads, rt, inquiry, file),
+        Ok(Some(text)) => ask_rows(threads, rt, inquiry, text),
         Err(unread) => refuse(rt, order, &unread),
     }
 }
@@ -247,18 +295,36 @@ fn named_by<'a>(rt: &HostRuntime, file: &'a str) -> Result<Option<Text<'a>>, Unr
     Ok(Some(Text::of_files(rt, &[file])?))
 }
 
-/// Tells why a text was not read, and answers the exit status.
-fn refuse(rt: &HostRuntime, order: Order<'_>, unread: &Unread<'_>) -> u8 {
+/// An order that ended with status 2 before anything was opened.
+fn failed<'a, S: Alter + Drop>(rt: &HostRuntime) -> Ended<'a, S> {
+    let ran = Ran {
+        status: 2,
+        last: None,
+        file: None,
+    };
+    Ended {
+        ran,
+        text: Text::empty(rt),
+        unwritten: None,
+    }
+}
+
+/// Tells why a text was not read.
+fn refuse<'a, S: Alter + Drop>(
+    rt: &HostRuntime,
+    order: Order<'_>,
+    unread: &Unread<'_>,
+) -> Ended<'a, S> {
+    let mut ended = failed(rt);
     if let Unread::Standard(fault, _) = unread {
         let mut writer = Noted::new(io::writer(rt));
         let _ = write_fault(rt.alloc(), *fault, &mut writer);
-        if let Some(error) = writer.error() {
-            tell_unwritten(rt, error);
-            return 2;
-        }
+        ended.unwritten = writer.take_error();
     }
-    tell_unread(rt, order, unread);
-    2
+    if ended.unwritten.is_none() {
+        tell_unread(rt, order, unread);
+    }
+    ended
 }
 
 /// The text of a request. Who audits or migrates an archive reads none.
@@ -273,21 +339,35 @@ fn text_of<'a>(rt: &HostRuntime, request: &Request<'a>) -> Result<Text<'a>, Unre
     }
 }
 
-/// Carries out a request, and answers the exit status. Where a file can't be read nothing is answered.
-fn carry_out<T: Threads + Wait + Clock + Sync>(
+/// Carries out a request. Where a file can't be read nothing is answered.
+fn carry_out<'a, T: Threads + Wait + Clock + Sync, S: Alter + Drop, O: Opener<S>>(
+    threads: &T,
+    rt: &HostRuntime,
+    request: &Request<'a>,
+    file: O,
+) -> Ended<'a, S> {
+    match request.order {
+        Order::LiveDay(_) => serve(threads, rt, request, file),
+        Order::BookText(_) => print(rt, file),
+        Order::Question { file: name, .. } | Order::Carry(name) => {
+            ask(threads, rt, request.order, name, file)
+        }
+        order => match text_of(rt, request) {
+            Ok(text) => answer(threads, rt, order, text, file),
+            Err(unread) => refuse(rt, order, &unread),
+        },
+    }
+}
+
+/// Carries out a request on the file that it names, and answers the exit status.
+fn run<T: Threads + Wait + Clock + Sync>(
     threads: &T,
     rt: &HostRuntime,
     request: &Request<'_>,
 ) -> u8 {
-    match request.order {
-        Order::LiveDay(_) => serve(threads, rt, request),
-        Order::BookText(_) => print(rt, request.order),
-        Order::Question { file, .. } | Order::Carry(file) => ask(threads, rt, request.order, file),
-        order => match text_of(rt, request) {
-            Ok(text) => answer(threads, rt, order, &text),
-            Err(unread) => refuse(rt, order, &unread),
-        },
-    }
+    let order = request.order;
+    let ended = carry_out(threads, rt, request, NamedFile { rt, order });
+    end(rt, order, ended)
 }
 
 /// Tells help or the version on standard output, and a usage fault on standard error. Answers the exit status.
@@ -316,7 +396,7 @@ fn main(rt: HostRuntime) -> ExitCode {
         return ExitCode::from(2);
     };
     ExitCode::from(match request_of(rt.alloc(), words.as_slice()) {
-        Ok(request) => carry_out(&rt, &rt, &request),
+        Ok(request) => run(&rt, &rt, &request),
         Err(fault) => tell_usage(&rt, fault),
     })
 }

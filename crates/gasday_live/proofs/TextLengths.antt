@@ -19,12 +19,12 @@ use Rattle.gd_text_part.specs.declared.row.Row.{Row}
 use Rattle.gd_text_lines.specs.Lines.{IsClosed, text_of_lines}
 use Rattle.gd_text_lines.proofs.AmongCalls.{bound, inside}
 use Rattle.gd_journal_store.specs.Pieces.{Piece}
-use Rattle.gd_serving.specs.Runs.{rows_text}
+use Rattle.gd_serving.specs.Runs.{AreOf, rows_text}
 use Rattle.gd_serving.specs.Yields.{Yield, LinesGive, rows_of}
 use Rattle.gd_live.specs.Lines.{RowDoes, BareGives, Gives, IsMade, counted}
 use Rattle.gd_live.specs.Stands.{Group, IsGroup, Room, Stand}
-use Rattle.gasday_live.specs.Books.{HasCalls, new_stand}
-use Rattle.gasday_live.specs.Texts.{BooksAreDays, KeptBooksAreDays}
+use Rattle.gasday_live.specs.Books.{BooksGrow, HasCalls, new_stand}
+use Rattle.gasday_live.specs.Texts.{BooksAreDays, KeptBooksAreDays, ServedBooksAreDays}
 use Rattle.gasday_live.proofs.Stands.{none_waits}
 
 -- the laws of lines, as they are told
@@ -156,3 +156,24 @@ stands_within are_plain follow ps calls s has =
 
 pub kept_books_are_days : BooksAreDays → RowsArePlain → RecordsFollow → KeptBooksAreDays
 kept_books_are_days days are_plain follow ps calls s stands holds = days ps s.day s.history stands.book holds (stands_within are_plain follow ps calls s stands.counted)
+
+-- ---- lines behind those
+
+-- the text of pieces with what is kept of lines behind theirs
+served_within : RowsArePlain → RecordsFollow → (ps more : List Piece) (calls : ℕ) (s t : Stand) (lines : List (List ℕ)) (ys : List Yield) → HasCalls ps calls s → IsGroup s.number s.group → LinesGive Gives s lines t ys → AreOf ys more
+    → IsWithin (rows_text (ps ++ more))
+served_within are_plain follow ps more calls s t lines ys has waits gave are =
+    let new = new_stand s.day has.opening has.rows in
+    let first = lines_take are_plain new has.last has.lines has.yields (none_waits new refl) has.gave in
+    let later = subst (λ (room : Room). TakesRoom room t.room (rows_of ys)) has.room (lines_take are_plain s t lines ys waits gave) in
+    let takes = takes_both new.room has.last.room t.room (rows_of has.yields) (rows_of ys) first later in
+    let within = text_within follow has.opening (rows_of has.yields ++ rows_of ys) has.rows has.opens.closed has.opens.within has.opens.reads t.room takes in
+    let text : rows_text (((has.opening, []) ∷ has.rest) ++ more) ≡ has.opening ++ (rows_of has.yields ++ rows_of ys) =
+    flat_map-append (λ (p : Piece). p.0) ((has.opening, []) ∷ has.rest) more ∙ append_assoc has.opening (rows_text has.rest) (rows_text more)
+    ∙ ap (λ (bytes : List ℕ). has.opening ++ (bytes ++ rows_text more)) has.are.rows ∙ ap (λ (bytes : List ℕ). has.opening ++ (rows_of has.yields ++ bytes)) are.rows in
+    subst (λ (l : List Piece). IsWithin (rows_text (l ++ more))) (sym has.pieces) (subst IsWithin (sym text) within)
+
+pub served_books_are_days : BooksAreDays → BooksGrow → RowsArePlain → RecordsFollow → ServedBooksAreDays
+served_books_are_days days grow are_plain follow ps more calls s t lines ys stands gave are holds =
+    let book = grow.grows s t lines ys ps more stands.book stands.group gave are in
+    days (ps ++ more) t.day t.history book holds (served_within are_plain follow ps more calls s t lines ys stands.counted (none_waits s stands.group) gave are)

@@ -1,5 +1,5 @@
 -- The text that the file of a book keeps: as it is printed, and as `day` reads it.
-use Rattle.std.specs.Prelude.{◌≡◌, ◌⊎◌, ℕ, List, [], take, Option}
+use Rattle.std.specs.Prelude.{◌≡◌, ◌⊎◌, ℕ, List, [], ◌++◌, take, Option}
 use Rattle.std.specs.Io.KnownBytes.{Appends}
 use Rattle.sqlite.specs.State.{State}
 use Rattle.gd_text_part.specs.Texts.{IsWithin}
@@ -8,8 +8,10 @@ use Rattle.gd_machine.specs.Headline.{Holds}
 use Rattle.gd_machine.specs.History.{History}
 use Rattle.gd_replies.specs.Lines.{lines_of}
 use Rattle.gd_journal_store.specs.Pieces.{Piece, Keeps}
-use Rattle.gd_serving.specs.Runs.{rows_text, told_text}
+use Rattle.gd_serving.specs.Runs.{AreOf, rows_text, told_text}
+use Rattle.gd_serving.specs.Yields.{Yield, LinesGive}
 use Rattle.gd_serving.specs.declared.failure.Failure.{Failure}
+use Rattle.gd_live.specs.Lines.{Gives}
 use Rattle.gd_live.specs.Stands.{Stand}
 use Rattle.gasday_words.specs.declared.order.Command.TheVariants as command
 use Rattle.gasday_part.specs.Answers.{Told, AnswersBytes}
@@ -41,3 +43,9 @@ BooksAreDays = (ps : List Piece) (day : Day) (h : History) → IsBook ps day h �
 -- So are those of a book that was made again, with no such premise: there was room for its lines behind the opening.
 abbrev pub KeptBooksAreDays : Type 0
 KeptBooksAreDays = (ps : List Piece) (calls : ℕ) (s : Stand) → Stands ps calls s → Holds s.day s.history → IsDay ps
+
+-- And so are they with all that is kept of lines that were served on it since: there was room for these too.
+abbrev pub ServedBooksAreDays : Type 0
+ServedBooksAreDays =
+    (ps more : List Piece) (calls : ℕ) (s t : Stand) (lines : List (List ℕ)) (ys : List Yield) → Stands ps calls s
+    → LinesGive Gives s lines t ys → AreOf ys more → Holds t.day t.history → IsDay (ps ++ more)

@@ -1,7 +1,7 @@
 //! Laws of books.
 
 ghost use Rattle.gasday_live.specs.Books.{BooksGrow};
-ghost use Rattle.gasday_live.specs.Texts.{BooksAreDays, KeptBooksAreDays};
+ghost use Rattle.gasday_live.specs.Texts.{BooksAreDays, KeptBooksAreDays, ServedBooksAreDays};
 
 use gd_live::{calls_go_on, what_is_kept_are_calls};
 use gd_live_text::calls_follow_their_opening;
@@ -29,6 +29,17 @@ pub fn kept_book_is_day()
     ensures { KeptBooksAreDays }
 {
     book_is_day();
+    row_lines_are_plain();
+    lines_follow_a_text();
+}
+
+/// So it is with a book on which lines were served, from the one that was made again on: wherever a run stands, what the file keeps
+/// is the text of a gas day, which `day` may answer with what was told.
+pub fn served_book_is_day()
+    ensures { ServedBooksAreDays }
+{
+    book_is_day();
+    a_book_grows();
     row_lines_are_plain();
     lines_follow_a_text();
 }

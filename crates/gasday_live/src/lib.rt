@@ -18,7 +18,7 @@ mod watched;
 pub use audit::audit_book;
 pub use inquiry::ask_book;
 pub use kept::KeptBook;
-pub use laws::{book_is_day, kept_book_is_day};
+pub use laws::{book_is_day, kept_book_is_day, served_book_is_day};
 pub use reading::read_book;
 pub use serving::serve_book;
 pub use text::{print_book, write_text};
