@@ -83,10 +83,10 @@ where
 {
     match opener.open() {
         Ok(mut conn) => {
-            let status = serve_book(threads, alloc, &mut conn, reader, writer);
+            let Written { status, last } = serve_book(threads, alloc, &mut conn, reader, writer);
             Ran {
                 status,
-                last: None,
+                last,
                 file: Some(conn),
             }
         }
@@ -105,10 +105,10 @@ pub(crate) fn print_over<S: Alter + Drop, W: Write, O: Opener<S>>(
 {
     match opener.open() {
         Ok(mut conn) => {
-            let status = print_book(alloc, &mut conn, writer);
+            let Written { status, last } = print_book(alloc, &mut conn, writer);
             Ran {
                 status,
-                last: None,
+                last,
                 file: Some(conn),
             }
         }

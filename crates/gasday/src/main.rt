@@ -177,6 +177,14 @@ fn serve_lines<T: Threads + Sync, S: Alter + Drop, O: Opener<S>, R: Read + Drop>
     (ran, writer.take_error())
 }
 
+/// The row with which lines as they came ended, where something can be told of it without their text, of which nothing is left.
+fn without_text(last: Option<Reply>) -> Option<Reply> {
+    match last {
+        Some(Reply::Fault(TextFault::Row { .. }) | Reply::OutOfRange | Reply::BadZone) => None,
+        last => last,
+    }
+}
+
 /// Serves the lines of standard input as they come.
 fn serve_input<'a, T: Threads + Sync, S: Alter + Drop, O: Opener<S>>(
     threads: &T,
@@ -184,9 +192,13 @@ fn serve_input<'a, T: Threads + Sync, S: Alter + Drop, O: Opener<S>>(
     file: O,
 ) -> Ended<'a, S> {
     tell_waiting(rt);
-    let (ran, unwritten) = serve_lines(threads, rt, rt.reader(), file);
+    let (Ran { status, last, file }, unwritten) = serve_lines(threads, rt, rt.reader(), file);
     Ended {
-        ran,
+        ran: Ran {
+            status,
+            last: without_text(last),
+            file,
+        },
         text: Text::empty(rt),
         unwritten,
     }

@@ -7,7 +7,7 @@ ghost use Rattle.gasday_live.specs.Runs.{TellsFailure, TellsFinish, Untaken};
 
 use crate::audit::store_row;
 use crate::lines::Ending;
-use gasday_part::{of_fault, of_one, write_answer};
+use gasday_part::{Written, of_fault, of_one, write_answer, write_rows};
 use gd_replies::Reply;
 use gd_serving::{Failure, Finish};
 use gd_text_part::TextFault;
@@ -26,38 +26,43 @@ pub(crate) fn tell<W: Write>(alloc: Global, writer: &mut W, row: Reply) -> bool
     writer.flush().is_ok()
 }
 
-/// Tells why a run failed, and answers the exit status. After a failed write nothing more is written.
-pub(crate) fn tell_failure<W: Write>(alloc: Global, writer: &mut W, why: &Failure) -> u8
-    ensures { TellsFailure (W.contents writer.old) (W.contents writer.new) why.now result }
+/// This exit status, with no row that tells why.
+pub(crate) fn told_nothing(status: u8) -> Written
+    ensures { result.status ≡ status }
+{
+    Written { status, last: None }
+}
+
+/// Tells why a run failed. After a failed write nothing more is written.
+pub(crate) fn tell_failure<W: Write>(alloc: Global, writer: &mut W, why: &Failure) -> Written
+    ensures { TellsFailure (W.contents writer.old) (W.contents writer.new) why.now result.status }
 {
     match why {
-        Failure::WriteFailed => 2,
-        Failure::ReadFailed => {
-            write_answer(alloc, writer, &of_fault(alloc, TextFault::ReadFailed))
-        }
-        Failure::OutOfMemory => write_answer(alloc, writer, &Err(AllocError)),
-        Failure::Store(fault) => write_answer(alloc, writer, &of_one(alloc, store_row(fault), 2)),
+        Failure::WriteFailed => told_nothing(2),
+        Failure::ReadFailed => { write_rows(alloc, writer, of_fault(alloc, TextFault::ReadFailed)) }
+        Failure::OutOfMemory => write_rows(alloc, writer, Err(AllocError)),
+        Failure::Store(fault) => write_rows(alloc, writer, of_one(alloc, store_row(fault), 2)),
     }
 }
 
-/// Tells how a run came to the end of its input, and answers the exit status.
-fn tell_finish<W: Write>(alloc: Global, writer: &mut W, ending: Ending) -> u8
-    ensures { TellsFinish (W.contents writer.old) (W.contents writer.new) ending.has_fault ending.finish result }
+/// Tells how a run came to the end of its input.
+fn tell_finish<W: Write>(alloc: Global, writer: &mut W, ending: Ending) -> Written
+    ensures { TellsFinish (W.contents writer.old) (W.contents writer.new) ending.has_fault ending.finish result.status }
 {
     match ending.finish {
-        Finish::Ended => u8::from(ending.has_fault),
+        Finish::Ended => told_nothing(u8::from(ending.has_fault)),
         Finish::Unfinished => tell_failure(alloc, writer, &Failure::ReadFailed),
     }
 }
 
-/// Tells how a run ended, and answers the exit status.
+/// Tells how a run ended.
 pub(crate) fn tell_end<W: Write>(
     alloc: Global,
     writer: &mut W,
     ended: &Result<Ending, Failure>,
-) -> u8
-    ensures ended { IfOk ended.now (λ it. TellsFinish (W.contents writer.old) (W.contents writer.new) it.has_fault it.finish result) }
-    ensures failed { IfErr ended.now (λ why. TellsFailure (W.contents writer.old) (W.contents writer.new) why result) }
+) -> Written
+    ensures ended { IfOk ended.now (λ it. TellsFinish (W.contents writer.old) (W.contents writer.new) it.has_fault it.finish result.status) }
+    ensures failed { IfErr ended.now (λ why. TellsFailure (W.contents writer.old) (W.contents writer.new) why result.status) }
 {
     match ended {
         Ok(ending) => tell_finish(alloc, writer, *ending),

@@ -9,14 +9,14 @@ ghost use Rattle.gasday_live.specs.Runs.{IsBegun, Runs, ServesOpened, Untaken, f
 
 use crate::beginning::{Begun, begin, of_no_run};
 use crate::lines::serve_lines;
-use crate::output::{tell, tell_end};
-use gasday_part::write_answer;
+use crate::output::{tell, tell_end, told_nothing};
+use gasday_part::{Written, write_rows};
 use sqlite::{Alter, Connection};
 use std::alloc::Global;
 use std::io::{Read, Write};
 use std::thread::Threads;
 
-/// Tells that a book is open, serves lines on it, and answers the exit status.
+/// Tells that a book is open, and serves lines on it.
 fn serve_begun<S: Alter, R: Read + Drop, W: Write>(
     rt: &(impl Threads + Sync),
     alloc: Global,
@@ -24,18 +24,18 @@ fn serve_begun<S: Alter, R: Read + Drop, W: Write>(
     begun: Begun,
     reader: R,
     writer: &mut W,
-) -> u8
+) -> Written
     ensures run { (had : Database) (head : List ℕ)
         → IsBegun (found_at had head begun.book.calls) begun.next (at_desk begun.book.desk) (state S.Store conn.old)
-        → (Untaken (W.contents writer.old) (W.contents writer.new) result
+        → (Untaken (W.contents writer.old) (W.contents writer.new) result.status
         × (conn.new ≡ conn.old))
         ⊎ ServesOpened (found_at had head begun.book.calls) (at_desk begun.book.desk) (state S.Store conn.new)
-        begun.bytes.items (R.remaining reader) (W.contents writer.old) (W.contents writer.new) result }
+        begun.bytes.items (R.remaining reader) (W.contents writer.old) (W.contents writer.new) result.status }
     ensures clean { HasCleanDisk (state S.Store conn.new) → HasCleanDisk (state S.Store conn.old) }
 {
     if !tell(alloc, writer, begun.book.opened()) {
         drop(begun);
-        return 2;
+        return told_nothing(2);
     }
     let Begun { book, next, bytes } = begun;
     let ended = serve_lines(
@@ -52,7 +52,7 @@ fn serve_begun<S: Alter, R: Read + Drop, W: Write>(
     tell_end(alloc, writer, &ended)
 }
 
-/// Serves the calls of a gas day's book line by line, as they come, on the book that the file keeps, and answers the exit status.
+/// Serves the calls of a gas day's book line by line, as they come, on the book that the file keeps.
 /// Where the file keeps none, the head of the input opens it. What is told is written and flushed once it is kept.
 ///
 /// The status is 0 where the input ended and no row was faulty, 1 where some row was, the file differs or the opening has no
@@ -63,14 +63,14 @@ pub fn serve_book<S: Alter, R: Read + Drop, W: Write>(
     conn: &mut Connection<S>,
     reader: R,
     writer: &mut W,
-) -> u8
+) -> Written
     ensures run { Runs (R.remaining reader) (state S.Store conn.old) (state S.Store conn.new)
-        (W.contents writer.old) (W.contents writer.new) result }
+        (W.contents writer.old) (W.contents writer.new) result.status }
     ensures clean { HasCleanDisk (state S.Store conn.new) → HasCleanDisk (state S.Store conn.old) }
 {
     let mut reader = reader;
     match begin(rt, alloc, conn, &mut reader) {
         Ok(begun) => serve_begun(rt, alloc, conn, begun, reader, writer),
-        Err(why) => write_answer(alloc, writer, &of_no_run(alloc, why)),
+        Err(why) => write_rows(alloc, writer, of_no_run(alloc, why)),
     }
 }

@@ -9,7 +9,8 @@ ghost use Rattle.gd_journal_store.specs.Seen.{seen};
 ghost use Rattle.gd_serving.specs.Runs.{rows_text};
 ghost use Rattle.gasday_live.specs.Texts.{Prints, WritesFront};
 
-use crate::output::tell_failure;
+use crate::output::{tell_failure, told_nothing};
+use gasday_part::Written;
 use gd_journal_store::{Piece, count, pieces};
 use gd_serving::Failure;
 use gd_text_part::write_bytes;
@@ -66,19 +67,23 @@ pub fn write_text<S: Alter, W: Write>(
     Ok(())
 }
 
-/// Prints the text that a book's file keeps, and answers the exit status: 0 where all of it was written; and 2 where the file
-/// can't be read, which is told behind what was written, or the writer failed.
-pub fn print_book<S: Alter, W: Write>(alloc: Global, conn: &mut Connection<S>, writer: &mut W) -> u8
+/// Prints the text that a book's file keeps. The status is 0 where all of it was written; and 2 where the file can't be read,
+/// which is told behind what was written, or the writer failed.
+pub fn print_book<S: Alter, W: Write>(
+    alloc: Global,
+    conn: &mut Connection<S>,
+    writer: &mut W,
+) -> Written
     ensures printed { HasCleanDisk (state S.Store conn.new) → Prints (state S.Store conn.old) (W.contents writer.old)
-        (W.contents writer.new) result }
+        (W.contents writer.new) result.status }
     ensures clean { HasCleanDisk (state S.Store conn.new) → HasCleanDisk (state S.Store conn.old) }
 {
     match write_text(alloc, conn, writer) {
         Ok(()) => {
             if writer.flush().is_err() {
-                return 2;
+                return told_nothing(2);
             }
-            0
+            told_nothing(0)
         }
         Err(why) => tell_failure(alloc, writer, &why),
     }

@@ -38,7 +38,7 @@ impl<'a> Work for Service<'a> {
     ) -> bool {
         let [first, second, third] = self.parts;
         let lines = first.chain(second).chain(third).chain(self.end);
-        self.status = serve_book(rt, alloc, conn, lines, &mut self.writer);
+        self.status = serve_book(rt, alloc, conn, lines, &mut self.writer).status;
         true
     }
 }
@@ -93,7 +93,7 @@ impl Work for Print {
         alloc: Global,
         conn: &mut Connection<S>,
     ) -> bool {
-        self.status = print_book(alloc, conn, &mut self.writer);
+        self.status = print_book(alloc, conn, &mut self.writer).status;
         true
     }
 }

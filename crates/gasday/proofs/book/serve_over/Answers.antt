@@ -9,8 +9,8 @@ pub returns-in-Ok : goal.returns-in-Ok
 returns-in-Ok g c = (
   c.open.result,
   c.open.ensures,
-  subst (λ o. DoesOn g.S.Store (λ old new. Runs (g.R.Read.remaining c.args.reader) (state g.S.Store old) (state g.S.Store new) (g.W.Write.contents c.args.writer.now) (g.W.Write.contents c.serve_book-status.new.writer) c.serve_book-status.result)
-      (TellsUnopened (g.W.Write.contents c.args.writer.now) (g.W.Write.contents c.serve_book-status.new.writer) c.serve_book-status.result) o (Some c.serve_book-status.new.conn))
+  subst (λ o. DoesOn g.S.Store (λ old new. Runs (g.R.Read.remaining c.args.reader) (state g.S.Store old) (state g.S.Store new) (g.W.Write.contents c.args.writer.now) (g.W.Write.contents c.serve_book-status.new.writer) c.serve_book-status.result.status)
+      (TellsUnopened (g.W.Write.contents c.args.writer.now) (g.W.Write.contents c.serve_book-status.new.writer) c.serve_book-status.result.status) o (Some c.serve_book-status.new.conn))
       (sym c.in-Ok.is) (λ clean. c.serve_book-status.ensures.run),
 )
 

@@ -8,11 +8,11 @@ use Rattle.gasday_live.proofs.output.tell_failure.Goals as goal
 pub returns-in-ReadFailed : goal.returns-in-ReadFailed
 returns-in-ReadFailed g c =
     let answer = fault_answer fault.ReadFailed in
-    rw c.in-ReadFailed.is (told_2 _ _ _ answer refl (c.write_answer.ensures answer (IfOk-weaker c.of_fault.result _ _ (λ a t. t.1) c.of_fault.ensures)))
+    rw c.in-ReadFailed.is (told_2 _ _ _ answer refl (c.write_rows.ensures answer (IfOk-weaker c.of_fault.result _ _ (λ a t. t.1) c.of_fault.ensures)))
 
 pub returns-in-OutOfMemory : goal.returns-in-OutOfMemory
-returns-in-OutOfMemory g c = rw c.in-OutOfMemory.is (told_2 _ _ _ (one no_memory 2) refl (c.write_answer-in-OutOfMemory.ensures (one no_memory 2) tt))
+returns-in-OutOfMemory g c = rw c.in-OutOfMemory.is (told_2 _ _ _ (one no_memory 2) refl (c.write_rows-in-OutOfMemory.ensures (one no_memory 2) tt))
 
 pub returns-in-Store : goal.returns-in-Store
 returns-in-Store g c =
-    rw c.in-Store.is (told_store _ _ _ c.store_row.result c.store_row.ensures (c.write_answer-in-Store.ensures (one c.store_row.result 2) c.of_one.ensures))
+    rw c.in-Store.is (told_store _ _ _ c.store_row.result c.store_row.ensures (c.write_rows-in-Store.ensures (one c.store_row.result 2) c.of_one.ensures))

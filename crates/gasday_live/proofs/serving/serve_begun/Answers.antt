@@ -6,7 +6,7 @@ use Rattle.gasday_live.proofs.Running.{serves_so}
 use Rattle.gasday_live.proofs.serving.serve_begun.Goals as goal
 
 pub returns-then-not-tell-clause-run : goal.returns-then-not-tell-clause-run
-returns-then-not-tell-clause-run g c had head begun = inl (c.tell.ensures.untold c.if-not-tell.true, refl)
+returns-then-not-tell-clause-run g c had head begun = inl (rw c.told_nothing.ensures (c.tell.ensures.untold c.if-not-tell.true), refl)
 
 pub returns-clause-run : goal.returns-clause-run
 returns-clause-run g c had head begun =
@@ -16,6 +16,6 @@ returns-clause-run g c had head begun =
       told = g.W.Write.contents c.tell.new.writer;
       opened = rw c.opened.ensures.is at (c.tell.ensures.told c.if-not-tell.false);
       holds = c.opened.ensures.holds;
-      serves = serves_so found (at_desk book.desk) (state g.S.Store c.serve_lines-ended.new.conn) (g.W.Write.contents c.tell.new.writer) (g.W.Write.contents c.serve_lines-ended.new.writer) (g.W.Write.contents c.tell_end.new.writer) c.args.begun.bytes.items c.tell_end.result
+      serves = serves_so found (at_desk book.desk) (state g.S.Store c.serve_lines-ended.new.conn) (g.W.Write.contents c.tell.new.writer) (g.W.Write.contents c.serve_lines-ended.new.writer) (g.W.Write.contents c.tell_end.new.writer) c.args.begun.bytes.items c.tell_end.result.status
           c.serve_lines-ended.result (g.R.Read.remaining c.args.reader) (rw c.as_slice.ensures.value at (c.serve_lines-ended.ensures.ended found begun)) (rw c.as_slice.ensures.value at (c.serve_lines-ended.ensures.stopped found begun)) c.tell_end.ensures.ended c.tell_end.ensures.failed;
     })

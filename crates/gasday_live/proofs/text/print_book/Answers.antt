@@ -8,7 +8,7 @@ use Rattle.gasday_live.proofs.text.print_book.Goals as goal
 pub returns-else-is_err-clause-printed : goal.returns-else-is_err-clause-printed
 returns-else-is_err-clause-printed g c clean =
     let (ps, keeps, all) = c.in-Ok.ensures.text clean in
-    inl (ps, keeps, Appends-kept _ _ _ _ all c.flush.ensures.bytes, refl)
+    inl (ps, keeps, Appends-kept _ _ _ _ all c.flush.ensures.bytes, c.told_nothing-in-Ok.ensures)
 
 pub returns-in-Err-clause-printed : goal.returns-in-Err-clause-printed
 returns-in-Err-clause-printed g c clean =
@@ -17,4 +17,4 @@ returns-in-Err-clause-printed g c clean =
 pub returns-then-is_err-clause-printed : goal.returns-then-is_err-clause-printed
 returns-then-is_err-clause-printed g c clean =
     let front = front_kept (state g.S.Store c.args.conn.now) _ _ _ (c.write_text.ensures.front clean) c.flush.ensures.bytes in
-    inr (g.W.Write.contents c.flush.new.self, front, (WriteFailed, (refl, refl)))
+    inr (g.W.Write.contents c.flush.new.self, front, (WriteFailed, (refl, c.told_nothing.ensures)))
