@@ -61,7 +61,8 @@ pub(crate) fn tell_end<W: Write>(
     writer: &mut W,
     ended: &Result<Ending, Failure>,
 ) -> Written
-    ensures ended { IfOk ended.now (λ it. TellsFinish (W.contents writer.old) (W.contents writer.new) it.has_fault it.finish result.status) }
+    ensures ended { IfOk ended.now (λ it. TellsFinish (W.contents writer.old) (W.contents writer.new)
+        it.has_fault it.finish result.status) }
     ensures failed { IfErr ended.now (λ why. TellsFailure (W.contents writer.old) (W.contents writer.new) why result.status) }
 {
     match ended {

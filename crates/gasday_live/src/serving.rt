@@ -52,8 +52,8 @@ fn serve_begun<S: Alter, R: Read + Drop, W: Write>(
     tell_end(alloc, writer, &ended)
 }
 
-/// Serves the calls of a gas day's book line by line, as they come, on the book that the file keeps.
-/// Where the file keeps none, the head of the input opens it. What is told is written and flushed once it is kept.
+/// Serves the calls of a gas day's book line by line, as they come, on the book that the file keeps. Where the file keeps none, the
+/// head of the input opens it. What is told is written and flushed once it is kept.
 ///
 /// The status is 0 where the input ended and no row was faulty, 1 where some row was, the file differs or the opening has no
 /// calendar, and 2 where the run failed. The connection is one that nobody else has, and is to be closed by the caller.
