@@ -29,11 +29,18 @@ _gasday() {
         help:*) ;;
         check:2) _gasday_words 'allowed best cut --help' ;;
         day:*)
-            [[ $before = --archive || $before = --book ]] || _gasday_words '--archive --book --help'
+            [ "$before" = --wait ] && return
+            [[ $before = --archive || $before = --book ]] || _gasday_words '--archive --book --wait --help'
             _gasday_files
             ;;
         question:3) _gasday_words '1 2 3 4 5 --help' ;;
-        check:* | solve:* | calendar:* | office:* | audit:2 | text:2 | question:2 | carry:2 | migrate:2)
+        audit:2 | text:2 | question:2 | carry:2 | migrate:2)
+            _gasday_words '--wait --help'
+            _gasday_files
+            ;;
+        audit:4 | text:4 | question:4 | carry:4 | migrate:4) [ "${COMP_WORDS[2]}" = --wait ] && _gasday_files ;;
+        question:5) [ "${COMP_WORDS[2]}" = --wait ] && _gasday_words '1 2 3 4 5' ;;
+        check:* | solve:* | calendar:* | office:*)
             _gasday_words '--help'
             _gasday_files
             ;;

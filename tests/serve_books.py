@@ -5,7 +5,8 @@ Serves gas days on books that files keep with PROGRAM, the built `gasday` (`day 
 kept: each day of the acceptance cases, each call awaited before the next is sent, is told as `day` tells it, whatever faulty
 rows come between; a day in two writes, cut at each byte; runs that are killed at KILLS random moments (200 without a number),
 after which all that was told has to be kept; files that are cut off, changed in a byte or in a row, of another kind, held by
-another process, on a disk that is full or in a folder that can't be written; readers and writers that end early.
+another process, on a disk that is full, with as many rows as a text may have, or in a folder that can't be written; readers and
+writers that end early.
 
 What a file has to say is worked out by `day` over the text that it keeps, and by Python's own sqlite3. The last line is
 'N passed, M failed', and the exit status is 0 only where none failed.
@@ -366,6 +367,19 @@ def full(books, opening):
                    done.returncode == 2 and rows[-1:] == [STORE[0]] and began and int(began[2]) >= told and books.replays(path))
 
 
+def filled(books, opening):
+    """A file keeps as many rows as a text may have, and takes no more: not in this run, and not in the next."""
+    path, rows = books.folder / "filled.book", 1_100_000
+    post = b"post,1772910950,S1,60,,,,\n"
+    told, status = books.run("day", "--book", path, text=opening + post * (rows + 1 - opening.count(b"\n")))
+    last = told.splitlines(keepends=True)[-1]
+    books.note(f"one row more than a text may have: {last}, {status}", status == 1 and last == b"fault,%d,TooLong,,,,,\n" % (rows + 1))
+    again, status = books.run("day", "--book", path, text=post)
+    books.note(f"one row more in the next run: {again}, {status}", status == 1 and again.splitlines()[1:] == [b"fault,1,TooLong,,,,,"])
+    kept = books.run("text", path)[0].count(b"\n")
+    books.note(f"{kept} rows are kept", kept == rows and books.replays(path))
+
+
 def ended(books, opening):
     """Who reads has gone, and who writes ends within a line."""
     call = b"nominate,1772910900,SHIP,INT,P%d,R1,D1,1\n"
@@ -418,6 +432,7 @@ def main():
         other_files(books, text)
         held(books, opening)
         full(books, opening)
+        filled(books, opening)
         ended(books, opening)
         killed(books, opening, kills // 2, 1)
         killed(books, opening, kills - kills // 2, 100)

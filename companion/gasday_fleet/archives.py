@@ -23,15 +23,6 @@ def verdict_of(told: Told) -> Answer:
     raise no_answer(told, "audit")
 
 
-def told_of(program: Program, path: str) -> Told:
-    """What `gasday audit` tells of a file; of a copy where it may not write, since it opens a log beside the file."""
-    if all(os.access(place, os.W_OK) for place in (path, os.path.dirname(path) or os.curdir)):
-        return program.call(["audit", path])
-    with tempfile.TemporaryDirectory(prefix="gasday-fleet-") as folder:
-        copy = copied(path, folder)
-        return program.call(["audit", copy])
-
-
 def copied(path: str, folder: str) -> str:
     """A copy of an archive with the log beside it, in a folder of one's own."""
     copy = os.path.join(folder, "archive.db")
@@ -46,7 +37,7 @@ def audit_archive(program: Program, path: str) -> Answer:
     try:
         before = sha256_of_file(path)
         begun = time.monotonic()
-        told = told_of(program, path)
+        told = program.call(["audit", path])
         seconds = time.monotonic() - begun
         if sha256_of_file(path) != before:
             return failure("it changed while it was audited")

@@ -42,26 +42,30 @@ class Completing(unittest.TestCase):
             self.assertEqual(self.offers(command, "text.csv", "o"), ["other.db"])
 
     def test_the_file_of_a_day(self) -> None:
-        self.assertEqual(self.offers("day", ""), ["--archive", "--book", "--help", *FILES])
+        self.assertEqual(self.offers("day", ""), ["--archive", "--book", "--help", "--wait", *FILES])
         self.assertEqual(self.offers("day", "--a"), ["--archive"])
         self.assertEqual(self.offers("day", "--b"), ["--book"])
         self.assertEqual(self.offers("day", "--archive", ""), FILES)
         self.assertEqual(self.offers("day", "--book", "o"), ["other.db"])
         self.assertEqual(self.offers("day", "--archive", "a"), ["a book.db"])
         self.assertEqual(self.offers("day", "--archive", "other.db", "t"), ["text.csv"])
+        self.assertEqual(self.offers("day", "--book", "other.db", "--wait", ""), [])
 
     def test_the_file_of_audit_text_carry_and_migrate(self) -> None:
         for command in ("audit", "text", "carry", "migrate"):
-            self.assertEqual(self.offers(command, ""), ["--help", *FILES])
+            self.assertEqual(self.offers(command, ""), ["--help", "--wait", *FILES])
             self.assertEqual(self.offers(command, "o"), ["other.db"])
-            self.assertEqual(self.offers(command, "--"), ["--help"])
+            self.assertEqual(self.offers(command, "--"), ["--help", "--wait"])
             self.assertEqual(self.offers(command, "other.db", ""), [])
+            self.assertEqual(self.offers(command, "--wait", ""), [])
+            self.assertEqual(self.offers(command, "--wait", "60", "o"), ["other.db"])
 
     def test_the_file_and_the_cycle_of_a_question(self) -> None:
-        self.assertEqual(self.offers("question", ""), ["--help", *FILES])
+        self.assertEqual(self.offers("question", ""), ["--help", "--wait", *FILES])
         self.assertEqual(self.offers("question", "o"), ["other.db"])
         self.assertEqual(self.offers("question", "other.db", ""), ["--help", "1", "2", "3", "4", "5"])
         self.assertEqual(self.offers("question", "other.db", "2"), ["2"])
+        self.assertEqual(self.offers("question", "--wait", "60", "other.db", ""), ["1", "2", "3", "4", "5"])
         self.assertEqual(self.offers("question", "other.db", "2", ""), [])
 
     def test_files_behind_a_redirection(self) -> None:

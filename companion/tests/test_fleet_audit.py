@@ -6,13 +6,8 @@ import os
 import signal
 import subprocess
 import unittest
-from pathlib import Path
-from unittest import mock
 
 from fleet_helpers import FleetTest, cells_of, rows_of, wait_until
-
-from gasday_fleet.archives import audit_archive
-from gasday_fleet.program import Told
 
 COLUMNS = "file,postings,verdict,told,seconds,sha256\n"
 
@@ -59,21 +54,6 @@ class Verdicts(FleetTest):
         self.assertEqual(cells_of(out, "file"), [name, "nothing.db"])
         self.assertEqual((cells_of(out, "verdict"), status), (["sound", "failed"], 2))
         self.assertEqual(rows_of(out)[0]["sha256"], hashlib.sha256(b"sound").hexdigest())
-
-    def test_what_may_not_be_written_is_audited_as_a_copy(self) -> None:
-        """(Who runs tests may be root, who may write each file but on a medium that can't be written.)"""
-        name, asked = self.put("000.db", "sound"), list[str]()
-
-        def call(words: list[str]) -> Told:
-            asked.append(words[1])
-            self.assertEqual(Path(words[1]).read_bytes(), b"sound")
-            return Told(b"audited,5,,,,,,\n", 0)
-
-        path = str(self.folder / name)
-        for is_writable in (True, False):
-            with mock.patch.object(os, "access", return_value=is_writable):
-                self.assertEqual(audit_archive(mock.Mock(call=call), path)["verdict"], "sound")
-        self.assertEqual((asked[0], asked[1] == path, os.path.exists(asked[1])), (path, False, False))
 
     def test_names_of_all_kinds(self) -> None:
         names = ["./-a.db", 'with "quotes", and a comma.db', "two\nlines.db", os.fsdecode(b"not-utf8-\xff.db")]

@@ -9,7 +9,7 @@ use Rattle.gasday_part.specs.Answers.{one}
 use Rattle.gasday_part.specs.Output.{WritesTold}
 use Rattle.gasday_part.specs.declared.inquiry.Inquiry.{Inquiry}
 use Rattle.gasday_part.specs.declared.inquiry.Inquiry.TheVariants as inquiry
-use Rattle.gasday_words.specs.Meaning.{most_rounds}
+use Rattle.gasday_words.specs.Meaning.{most_number}
 use Rattle.gasday_words.specs.Ordered.{Ordered, Question, Carry}
 use Rattle.gasday_live.specs.Asked.{AsksBook}
 use Rattle.gasday_live.specs.Runs.{Runs}
@@ -23,7 +23,7 @@ AsksFor order asked = ⊥
 
 -- the order asks something, by the number of a cycle, and of a round where it names one
 abbrev pub IsInquiry : Ordered → Type 0
-IsInquiry (Question file cycle round) = (1 ≤ cycle) × (cycle ≤ 5) × IfSome round (λ n. (1 ≤ n) × (n ≤ most_rounds))
+IsInquiry (Question file cycle round) = (1 ≤ cycle) × (cycle ≤ 5) × IfSome round (λ n. (1 ≤ n) × (n ≤ most_number))
 IsInquiry (Carry file) = ⊤
 IsInquiry order = ⊥
 

@@ -3,18 +3,28 @@
 use crate::told::tell_unopened;
 use gasday_archive::Opener;
 use gasday_words::Order;
-use sqlite::{Connection, Error, ErrorCode, File as StoreFile, FileStore};
+use sqlite::{Connection, Error, ErrorCode, File as StoreFile, FileStore, Unknown};
+use sqlite_disk::Disk;
 use std::alloc::AllocError;
 use std::fs::{File, metadata};
 use std::io;
 use std::io::{ErrorKind, Read};
+use std::thread::sleep;
+use std::time::Duration;
 
 /// The file that an order names.
 #[derive(Drop)]
 pub(crate) struct NamedFile<'a> {
     pub(crate) rt: &'a HostRuntime,
     pub(crate) order: Order<'a>,
+    /// For how many seconds it is tried again where another process has it.
+    pub(crate) wait: u32,
 }
+
+/// How often a second a file is tried that another process has, and the milliseconds from one try to the next.
+const TRIES: u64 = 10;
+
+const PAUSE: u64 = 100;
 
 impl<'a> NamedFile<'a> {
     /// Tells people why a file can't be opened, where there was memory for that.
@@ -48,13 +58,38 @@ impl<'a> NamedFile<'a> {
         }
     }
 
-    /// Tells people why the file can't be opened. That another process has it is told by its row.
+    /// Opens the file, as soon as no other process has it, if it waits so long.
+    fn opened(&self, name: &str) -> Result<Connection<FileStore<StoreFile>>, Error> {
+        'tries: for _ in 0..u64::from(self.wait) * TRIES {
+            match Connection::open(self.rt, name) {
+                Err(Error::SqliteFailure(ErrorCode::DatabaseBusy)) => {
+                    sleep(self.rt, Duration::from_millis(PAUSE));
+                }
+                opened => return opened,
+            }
+        }
+        Connection::open(self.rt, name)
+    }
+
+    /// Tells people why the file can't be opened.
     fn tell_why(&self, name: &str, error: &Error) {
         match (metadata(self.rt, name), error) {
-            (_, Error::SqliteFailure(ErrorCode::DatabaseBusy)) => {}
+            (_, Error::SqliteFailure(ErrorCode::DatabaseBusy)) => tell_unopened(
+                self.rt,
+                name,
+                "another process has it; it is free again once that has ended",
+            ),
             (Ok(found), _) if found.is_dir() => tell_unopened(self.rt, name, "it is a folder"),
-            _ => self.tell(name, error.to_string(self.rt.alloc())),
+            _ => self.tell(name, cause(self.rt, name, error)),
         }
+    }
+}
+
+/// Why a file can't be opened as a database, which sqlite refused with this error: what the system says of it, if that refuses it.
+fn cause(rt: &HostRuntime, name: &str, error: &Error) -> Result<String, AllocError> {
+    match sqlite_std_file::open(rt, name, Unknown) {
+        Err(refused) => refused.to_string(rt.alloc()),
+        Ok(_) => error.to_string(rt.alloc()),
     }
 }
 
@@ -68,7 +103,7 @@ impl<'a> Opener<FileStore<StoreFile>> for NamedFile<'a> {
         let Some(name) = self.name() else {
             return Err(Error::SqliteFailure(ErrorCode::CannotOpen));
         };
-        match Connection::open(self.rt, name) {
+        match self.opened(name) {
             Ok(conn) => Ok(conn),
             Err(error) => {
                 self.tell_why(name, &error);
@@ -92,7 +127,7 @@ pub(crate) fn is_database(rt: &HostRuntime, name: &str) -> io::Result<bool> {
 }
 
 /// Closes a file that was opened, and copies its log into it. Where that fails both stay, and what was kept stands in the log.
-pub(crate) fn close(file: Option<Connection<FileStore<StoreFile>>>) -> Result<(), Error> {
+pub(crate) fn close<D: Disk + Drop>(file: Option<Connection<FileStore<D>>>) -> Result<(), Error> {
     match file {
         Some(file) => file.close(),
         None => Ok(()),

@@ -11,12 +11,14 @@ ghost use Rattle.gasday.specs.Carried.{AnswersOrder, AnswersSlots, CarriesOut, s
 ghost use Rattle.gasday_archive.specs.Orders.{IsAnswered};
 
 mod book;
+mod copied;
 mod file;
 mod input;
 mod noted;
 mod told;
 
 use crate::book::{ask_over, inquiry_of, print_over, serve_over};
+use crate::copied::{CopiedFile, unwritable};
 use crate::file::{NamedFile, close, is_database};
 use crate::input::{STANDARD_INPUT, Text, Unread};
 use crate::noted::Noted;
@@ -27,7 +29,8 @@ use gasday_part::{Inquiry, Written, ask_text, last_of, of_fault, write_answer};
 use gasday_words::{Command, Order, Request, UsageFault, request_of};
 use gd_replies::Reply;
 use gd_text_part::TextFault;
-use sqlite::{Alter, Connection, Error, File, FileStore};
+use sqlite::{Alter, Connection, Error, FileStore};
+use sqlite_disk::Disk;
 use std::alloc::Global;
 use std::io::{Read, Write};
 use std::process::ExitCode;
@@ -128,17 +131,14 @@ struct Ended<'a, S: Alter + Drop> {
 }
 
 /// Closes the file of an order that has ended, tells people why it didn't end well, and answers the exit status.
-///
-/// What comes before is written for any store and opener: to prove a call over the program's own takes the prover as long as ten
-/// of those.
-fn end(rt: &HostRuntime, order: Order<'_>, ended: Ended<'_, FileStore<File>>) -> u8 {
+fn end<D: Disk + Drop>(rt: &HostRuntime, order: Order<'_>, ended: Ended<'_, FileStore<D>>) -> u8 {
     let Ran { status, last, file } = ended.ran;
     let is_unopened = file.is_none();
     let status = closed(rt, order, close(file), status);
     match (&ended.unwritten, last) {
         (Some(error), _) => tell_unwritten(rt, error),
         // (Whoever couldn't open the file has told why.)
-        (None, Some(Reply::Store)) if is_unopened => {}
+        (None, Some(Reply::Store | Reply::Busy)) if is_unopened => {}
         (None, Some(last)) if status != 0 => tell_why(rt, order, &ended.text, &last),
         _ => {}
     }
@@ -371,14 +371,20 @@ fn carry_out<'a, T: Threads + Wait + Clock + Sync, S: Alter + Drop, O: Opener<S>
     }
 }
 
-/// Carries out a request on the file that it names, and answers the exit status.
+/// Carries out a request on the file that it names, or on a copy of that where it is only read and may not be written, and answers
+/// the exit status.
 fn run<T: Threads + Wait + Clock + Sync>(
     threads: &T,
     rt: &HostRuntime,
     request: &Request<'_>,
 ) -> u8 {
     let order = request.order;
-    let ended = carry_out(threads, rt, request, NamedFile { rt, order });
+    if let Some(name) = unwritable(rt, order) {
+        let ended = carry_out(threads, rt, request, CopiedFile { rt, name });
+        return end(rt, order, ended);
+    }
+    let wait = request.wait;
+    let ended = carry_out(threads, rt, request, NamedFile { rt, order, wait });
     end(rt, order, ended)
 }
 

@@ -8,7 +8,7 @@ use Rattle.gasday_part.specs.Output.{Written}
 use Rattle.gasday_part.specs.declared.answer.Answer.{Answer}
 use Rattle.gasday_part.specs.declared.inquiry.Inquiry.{Inquiry}
 use Rattle.gasday_live.specs.Asked.{AsksBook}
-use Rattle.gasday_live.specs.Audits.{Explains, TellsFault}
+use Rattle.gasday_live.specs.Faults.{Explains, TellsFault}
 
 pub tells_fault : {E : Type 0} (was : State) (asked : Inquiry) (before behind : Option (List ℕ)) (status : ℕ) (why : ReplayFault) (r : Result Answer E) → Explains was why → IfOk r (λ a. TellsFault why (answer_seen a))
     → ((told : Told) → IfOk r (λ a. answer_seen a ≡ told) → Written before behind status told) → AsksBook was asked before behind status

@@ -1,24 +1,23 @@
 -- How runs end, and what is told of that.
-use Rattle.std.specs.Prelude.{IfSome}
-use Rattle.std.proofs.Common.{◌≡◌, ◌≢◌, ◌⊎◌, inl, inr, ℕ, List, ◌++◌, Option, Some, None, Result, Ok, Err, IfOk, IfErr, refl, sym, ap, subst, ◌∙◌}
-use Rattle.sqlite.specs.State.{State}
+use Rattle.std.specs.Prelude.{IfSome, IsErrAnd}
+use Rattle.std.proofs.Common.{◌≡◌, ◌⊎◌, inl, inr, ℕ, List, ◌++◌, Option, Some, None, Result, Ok, Err, IfOk, IfErr, refl, sym, subst}
+use Rattle.sqlite.specs.Effect.{Database}
+use Rattle.sqlite.specs.State.{State, HasCleanDisk}
 use Rattle.gd_serving.specs.declared.failure.Failure.{Failure}
-use Rattle.gd_serving.specs.declared.replaying.ReplayFault.{ReplayFault}
-use Rattle.gd_serving.specs.declared.replaying.ReplayFault.TheVariants.{Differs, OutOfMemory, Store}
 use Rattle.gd_live.specs.Stands.{Stand}
 use Rattle.gd_replies.specs.declared.reply.Reply.{Reply}
 use Rattle.gd_replies.specs.declared.reply.Reply.TheVariants as reply
 use Rattle.gasday_part.specs.AnswerSeen.{answer_seen}
 use Rattle.gasday_part.specs.Answers.{Told, one, no_memory}
-use Rattle.gasday_part.specs.OpenedBooks.{TellsNoBook}
-use Rattle.gasday_part.specs.Output.{Written}
+use Rattle.gasday_part.specs.Output.{Written, WritesTold}
 use Rattle.gasday_part.specs.declared.answer.Answer.{Answer}
 use Rattle.gasday_part.specs.declared.opened.NoBook.{NoBook}
-use Rattle.gasday_part.specs.declared.opened.NoBook.TheVariants as none
-use Rattle.gasday_live.specs.Audits.{TellsFault}
+use Rattle.gasday_live.specs.Beginnings.{ExplainsNoRun, TellsNoRun}
+use Rattle.gasday_live.specs.declared.beginning.NoRun.{NoRun}
+use Rattle.gasday_live.specs.declared.beginning.NoRun.TheVariants.{Opening, File}
 use Rattle.gasday_live.specs.declared.lines.Ending.{Ending}
-use Rattle.gasday_live.specs.Runs.{Found, found_at, Begins, LosesNone, ComesToEnd, Stops, Serves, ServesOpened, Untaken, Runs, TellsFailure, TellsFinish}
-use Rattle.gasday_live.proofs.ToldRows.{bad_status, status_2}
+use Rattle.gasday_live.specs.Runs.{Found, found_at, HasNoBook, KeptNone, Begins, ComesToEnd, Stops, Serves, OpensUntold, ServesOpened, TellsUnbegun, Runs, TellsFailure, TellsFinish}
+use Rattle.gasday_live.proofs.ToldRows.{status_2}
 
 module _ (found : Found) (start : Stand) (new : State) (told mid behind : Option (List ℕ)) (bytes : List ℕ) (status : ℕ) where
   -- lines were served, and how that ended is told
@@ -32,9 +31,8 @@ module _ (found : Found) (start : Stand) (new : State) (told mid behind : Option
 
 -- a run on a book that was begun
 pub run_of : {H : Type 0} (state : H → State) (all rest : Option (List ℕ)) (start : Stand) (calls next : ℕ) (was : State) (mid new : H) (bytes : List ℕ) (before behind : Option (List ℕ)) (status : ℕ) → (begun : Begins was.now all rest bytes calls next start (state mid))
-    → LosesNone was (state mid) → (Untaken before behind status × (new ≡ mid)) ⊎ ServesOpened (found_at was.now begun.head calls) start (state new) bytes rest before behind status → Runs all was (state new) before behind status
-run_of state all rest start calls next was mid new bytes before behind status begun lost (inl (untaken, same)) = inl (untaken, subst (λ h. LosesNone was (state h)) (sym same) lost)
-run_of state all rest start calls next was mid new bytes before behind status begun lost (inr serves) = inr (record {
+    → OpensUntold (found_at was.now begun.head calls) start (state new) before behind status ⊎ ServesOpened (found_at was.now begun.head calls) start (state new) bytes rest before behind status → Runs all was (state new) before behind status
+run_of state all rest start calls next was mid new bytes before behind status begun serves = inr (record {
   found = found_at was.now begun.head calls;
   had = refl;
   start = start;
@@ -45,29 +43,29 @@ run_of state all rest start calls next was mid new bytes before behind status be
   serves = serves;
 })
 
-two : ◌≢◌ {A = ℕ} 2 0
-two bad = cc
+-- ---- a run that takes no line
 
-one_is : ◌≢◌ {A = ℕ} 1 0
-one_is bad = cc
+-- the head of the input opens no book
+opening_explains : (all : Option (List ℕ)) (had : Database) (new : State) (why : NoRun) (fault : NoBook) → why ≡ Opening fault → HasNoBook all fault
+    → (HasCleanDisk new → KeptNone had) → ExplainsNoRun all had new why
+opening_explains all had new why fault is none kept = subst (ExplainsNoRun all had new) (sym is) (none, kept)
 
--- a run that takes no line
-pub untaken : {E : Type 0} (r : Result Answer E) (before behind : Option (List ℕ)) (status : ℕ) → ((told : Told) → IfOk r (λ a. answer_seen a ≡ told) → Written before behind status told)
-    → IfOk r (λ a. (answer_seen a).status ≢ 0) → Untaken before behind status
-untaken (Ok a) before behind status written other =
-    let it = written (answer_seen a) refl in (answer_seen a, it, bad_status before behind status (answer_seen a) it other)
-untaken (Err e) before behind status written other =
-    let it = written (one no_memory 2) tt in (one no_memory 2, it, bad_status before behind status (one no_memory 2) it two)
+pub none_opened : {T : Type 0} (r : Result T NoRun) (all : Option (List ℕ)) (had : Database) (new : State) (fault : NoBook) → IsErrAnd r (λ why. why ≡ Opening fault)
+    → HasNoBook all fault → (HasCleanDisk new → KeptNone had) → IfErr r (ExplainsNoRun all had new)
+none_opened (Ok x) all had new fault is none kept = tt
+none_opened (Err why) all had new fault is none kept = opening_explains all had new why fault is none kept
 
-pub no_book_bad : (why : NoBook) (a : Told) → TellsNoBook why a → a.status ≢ 0
-no_book_bad (none.Fault f) a (other, is) bad = two (sym (ap (λ (t : Told). t.status) is) ∙ bad)
-no_book_bad (none.NoCalendar f) a (other, is) bad = one_is (sym (ap (λ (t : Told). t.status) is) ∙ bad)
+-- why is told
+pub untaken : {E : Type 0} (r : Result Answer E) (why : NoRun) (all : Option (List ℕ)) (was new : State) (before behind : Option (List ℕ)) (status : ℕ)
+    → ((told : Told) → IfOk r (λ a. answer_seen a ≡ told) → Written before behind status told) → IfOk r (λ a. TellsNoRun why (answer_seen a)) → ExplainsNoRun all was.now new why
+    → WritesTold (λ a. TellsUnbegun all was new a ⊎ (a ≡ one no_memory 2)) before behind status
+untaken (Ok a) (Opening why) all was new before behind status written tells explains =
+    (answer_seen a, inl (inl (why, explains.0, explains.1, tells)), written (answer_seen a) refl)
+untaken (Ok a) (File why) all was new before behind status written tells explains =
+    (answer_seen a, inl (inr (why, explains, tells)), written (answer_seen a) refl)
+untaken (Err e) why all was new before behind status written tells explains = (one no_memory 2, inr refl, written (one no_memory 2) tt)
 
-pub fault_bad : (why : ReplayFault) (a : Told) → TellsFault why a → a.status ≢ 0
-fault_bad (Differs piece call) a is bad = one_is (sym (ap (λ (t : Told). t.status) is) ∙ bad)
-fault_bad OutOfMemory a is bad = absurd is
-fault_bad (Store f) a (inl is) bad = two (sym (ap (λ (t : Told). t.status) is) ∙ bad)
-fault_bad (Store f) a (inr is) bad = two (sym (ap (λ (t : Told). t.status) is) ∙ bad)
+-- ---- failures
 
 -- an answer with status 2 that is told of a failure
 pub told_2 : (before behind : Option (List ℕ)) (status : ℕ) (a : Told) → a.status ≡ 2 → Written before behind status a → Written before behind status a × (status ≡ 2)

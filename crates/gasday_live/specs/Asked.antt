@@ -8,8 +8,8 @@ use Rattle.gd_serving.specs.declared.replaying.ReplayFault.{ReplayFault}
 use Rattle.gasday_part.specs.Inquiries.{PrintsInquiry, Writes}
 use Rattle.gasday_part.specs.Output.{WritesTold}
 use Rattle.gasday_part.specs.declared.inquiry.Inquiry.{Inquiry}
-use Rattle.gasday_live.specs.Audits.{Explains, TellsFault}
 use Rattle.gasday_live.specs.Books.{Stands}
+use Rattle.gasday_live.specs.Faults.{Explains, TellsFault}
 
 -- The file keeps a book, of whose history the headline holds, and this is printed of it.
 pub record PrintsKept (was : State) (asked : Inquiry) (text : List ℕ) (status : ℕ) : Type 0 where

@@ -1,5 +1,5 @@
 -- What an audit tells of a book's file.
-use Rattle.std.specs.Prelude.{◌≡◌, ◌⊎◌, ℕ, Bool, true, false, List, length, count_by, ⊤}
+use Rattle.std.specs.Prelude.{◌≡◌, ◌⊎◌, ℕ, Bool, true, false, List, length, count_by}
 use Rattle.sqlite.specs.State.{State}
 use Rattle.gd_journal_store.specs.Pieces.{Piece, Keeps}
 use Rattle.gd_machine.specs.Headline.{Holds}
@@ -7,11 +7,11 @@ use Rattle.gd_machine.specs.declared.reply.Reply.{Reply as BookReply}
 use Rattle.gd_machine.specs.declared.reply.Reply.TheVariants as book
 use Rattle.gd_live.specs.Stands.{Stand}
 use Rattle.gd_serving.specs.declared.replaying.ReplayFault.{ReplayFault}
-use Rattle.gd_serving.specs.declared.replaying.ReplayFault.TheVariants.{Differs, OutOfMemory, Store}
 use Rattle.gd_replies.specs.declared.reply.Reply.{Reply}
 use Rattle.gd_replies.specs.declared.reply.Reply.TheVariants as reply
-use Rattle.gasday_part.specs.Answers.{Told, one, refused}
-use Rattle.gasday_live.specs.Books.{Blames, Stands}
+use Rattle.gasday_part.specs.Answers.{Told, one}
+use Rattle.gasday_live.specs.Books.{Stands}
+use Rattle.gasday_live.specs.Faults.{Explains, TellsFault}
 use Rattle.gasday_live.specs.Texts.{IsDay}
 
 -- whether a schedule was published
@@ -34,18 +34,6 @@ pub record IsReplayed (was : State) (a : Told) : Type 0 where
   pub holds : Holds stand.day stand.history
   pub is_day : IsDay pieces
   pub told : a ≡ one (replayed_row stand calls) 0
-
--- Where the file differs from a book is told with status 1, and with status 2 why it can't be read; want of memory isn't.
-abbrev pub TellsFault : ReplayFault → Told → Type 0
-TellsFault (Differs piece call) a = a ≡ refused (reply.Differs piece call)
-TellsFault OutOfMemory a = ⊥
-TellsFault (Store f) a = (a ≡ one reply.Store 2) ⊎ (a ≡ one reply.Busy 2)
-
--- a difference is told of the pieces that the file keeps
-abbrev pub Explains : State → ReplayFault → Type 0
-Explains was (Differs piece call) = (ps : List Piece) × Keeps ps was.now × Blames ps (Differs piece call)
-Explains was OutOfMemory = ⊤
-Explains was (Store f) = ⊤
 
 -- The file is replayed, or a fault is told.
 abbrev pub Audits : State → Told → Type 0

@@ -1,6 +1,9 @@
 pub mod Books
+pub mod Faults
+pub mod Unopened
 pub mod Audits
 pub mod Watching
 pub mod Runs
 pub mod Texts
+pub mod Beginnings
 pub mod Asked

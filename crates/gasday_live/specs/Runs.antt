@@ -1,5 +1,5 @@
 -- What a run on a book's file came to.
-use Rattle.std.specs.Prelude.{◌≡◌, ◌≢◌, ◌⊎◌, ℕ, ◌+◌, Bool, true, false, if◌then◌else◌, List, [], ◌∷◌, ◌++◌, length, take, Ok, Option, IfSome}
+use Rattle.std.specs.Prelude.{◌≡◌, ◌⊎◌, ℕ, ◌+◌, Bool, true, false, if◌then◌else◌, List, [], ◌∷◌, ◌++◌, length, take, Ok, Option, IfSome}
 use Rattle.std.specs.Io.KnownBytes.{Appends, Consumes}
 use Rattle.sqlite.specs.Effect.{Database}
 use Rattle.sqlite.specs.State.{State, HasCleanDisk}
@@ -10,11 +10,12 @@ use Rattle.gd_machine.specs.Headline.{Holds}
 use Rattle.gd_replies.specs.Lines.{lines_of}
 use Rattle.gd_replies.specs.declared.reply.Reply.{Reply}
 use Rattle.gd_replies.specs.declared.reply.Reply.TheVariants as reply
-use Rattle.gd_text_part.specs.Texts.{rows_of}
+use Rattle.gd_text_part.specs.Texts.{BlamesNoRow, rows_of}
+use Rattle.gd_text_part.specs.declared.fault.TextFault.{TextFault}
 use Rattle.gd_text_part.specs.declared.fault.TextFault.TheVariants as fault
 use Rattle.gd_text_part.specs.declared.kind.Form.TheVariants as form
 use Rattle.gd_text_part.specs.declared.row.Row.{Row}
-use Rattle.gd_opening.specs.Openings.{IsOpening}
+use Rattle.gd_opening.specs.Openings.{IsOpening, HasLongOpening}
 use Rattle.gd_serving.specs.Lines.{cut}
 use Rattle.gd_serving.specs.Runs.{EndsAs, AreOf, HasKept}
 use Rattle.gd_serving.specs.Yields.{Yield, LinesGive, told_of}
@@ -22,11 +23,17 @@ use Rattle.gd_serving.specs.declared.failure.Failure.{Failure}
 use Rattle.gd_serving.specs.declared.failure.Failure.TheVariants.{ReadFailed, OutOfMemory, Store, WriteFailed}
 use Rattle.gd_serving.specs.declared.failure.Finish.{Finish}
 use Rattle.gd_serving.specs.declared.failure.Finish.TheVariants.{Ended, Unfinished}
+use Rattle.gd_serving.specs.declared.replaying.ReplayFault.{ReplayFault}
 use Rattle.gd_live.specs.Lines.{Gives}
 use Rattle.gd_live.specs.Stands.{Stand}
 use Rattle.gasday_part.specs.Answers.{Told, one, fault_answer, no_memory}
-use Rattle.gasday_part.specs.Output.{Written}
+use Rattle.gasday_part.specs.OpenedBooks.{TellsNoBook}
+use Rattle.gasday_part.specs.Output.{Written, WritesTold}
+use Rattle.gasday_part.specs.declared.opened.NoBook.{NoBook}
+use Rattle.gasday_part.specs.declared.opened.NoBook.TheVariants as none
 use Rattle.gasday_live.specs.Books.{IsBook, Stands}
+use Rattle.gasday_live.specs.Faults.{Explains, TellsFault}
+use Rattle.gasday_live.specs.Unopened.{OpensNone}
 use Rattle.gasday_live.specs.Watching.{any_fault}
 
 -- The row with which a failure is told; nothing is written after a failed write.
@@ -75,6 +82,20 @@ IsHead head bytes = ((head ≡ []) × (bytes ≡ [])) ⊎ (((bytes ≡ []) × Is
 -- The file is settled on the pieces that are found, and this is the number of the next one, if the disk is clean.
 abbrev pub IsBegun : Found → ℕ → Stand → State → Type 0
 IsBegun found next s kept = HasCleanDisk kept → (ps : List Piece) × IsFound found s ps × IsSettled ps kept × (next ≡ length ps + 1)
+
+-- Why the head of an input opens no book: it can't be read, or is longer than a text may be; or its whole lines were read, and open
+-- none.
+abbrev pub HasNoBook : Option (List ℕ) → NoBook → Type 0
+HasNoBook all why =
+    ((f : TextFault) × BlamesNoRow (IfSome all HasLongOpening) f × (why ≡ none.Fault f))
+    ⊎ ((head bytes : List ℕ) × (rest : Option (List ℕ)) × Consumes all rest (head ++ bytes) × IsHead head bytes × OpensNone head why)
+
+-- Why a run takes no line, and how it is told: no book was kept, and the head of the input opens none; or the book that was kept
+-- isn't made again, or the file can't be read or written.
+abbrev pub TellsUnbegun : Option (List ℕ) → State → State → Told → Type 0
+TellsUnbegun all was new a =
+    ((why : NoBook) × HasNoBook all why × (HasCleanDisk new → KeptNone was.now) × TellsNoBook why a)
+    ⊎ ((why : ReplayFault) × (HasCleanDisk new → Explains was why) × TellsFault why a)
 
 -- A run begins where so much was kept, behind a head of the input with these bytes behind it that were read too.
 pub record Begins (had : Database) (all rest : Option (List ℕ)) (bytes : List ℕ) (calls next : ℕ) (s : Stand) (kept : State) : Type 0 where
@@ -182,10 +203,6 @@ module _ (found : Found) (start : Stand) (new : State) (told behind : Option (Li
   abbrev pub Serves : Type 0
   Serves = RunsOut ⊎ BreaksOff
 
--- A run took no line: an answer was told, and the status isn't 0.
-abbrev pub Untaken : Option (List ℕ) → Option (List ℕ) → ℕ → Type 0
-Untaken before behind status = (a : Told) × Written before behind status a × (status ≢ 0)
-
 -- a crash leaves these pieces, if others then behind them
 abbrev pub LeavesFront : List Piece → State → Type 0
 LeavesFront ps s = (db : Trees) → s.may_leave db → (more : List Piece) × HasPieces (ps ++ more) db
@@ -193,6 +210,11 @@ LeavesFront ps s = (db : Trees) → s.may_leave db → (more : List Piece) × Ha
 -- no piece that a journal was settled on is lost
 abbrev pub LosesNone : State → State → Type 0
 LosesNone was new = HasCleanDisk new → (ps : List Piece) → IsSettled ps was → LeavesFront ps new
+
+-- A run took no line: why was told, or that memory ran out. No piece was lost.
+abbrev pub Untaken : Option (List ℕ) → State → State → Option (List ℕ) → Option (List ℕ) → ℕ → Type 0
+Untaken all was new before behind status =
+    WritesTold (λ a. TellsUnbegun all was new a ⊎ (a ≡ one no_memory 2)) before behind status × LosesNone was new
 
 -- the row that tells that a book is open which stands so behind so many calls
 abbrev pub opened_row : Stand → ℕ → Reply
@@ -205,7 +227,13 @@ pub record ServesOpened (found : Found) (start : Stand) (new : State) (bytes : L
   pub holds : Holds start.day start.history
   pub serves : IfSome rest (λ rest. Serves found start new told behind status (bytes ++ rest))
 
--- A run took lines on the book that the file kept, or that the head of the input opened.
+-- That the book is open was not told as a whole, or not flushed, so that no line was taken; the book is kept as it was found.
+pub record OpensUntold (found : Found) (start : Stand) (new : State) (before behind : Option (List ℕ)) (status : ℕ) : Type 0 where
+  pub written : Written before behind status (one (opened_row start found.calls) 2)
+  pub status_is : status ≡ 2
+  pub keeps : OnBook found start new (λ ps. IsSettled ps new)
+
+-- A run was on the book that the file kept, or that the head of the input opened.
 pub record Taken (all : Option (List ℕ)) (was new : State) (before behind : Option (List ℕ)) (status : ℕ) : Type 0 where
   pub found : Found
   pub had : found.had ≡ was.now
@@ -214,7 +242,7 @@ pub record Taken (all : Option (List ℕ)) (was new : State) (before behind : Op
   pub rest : Option (List ℕ)
   pub read : Consumes all rest (found.head ++ bytes)
   pub head : IsHead found.head bytes
-  pub serves : ServesOpened found start new bytes rest before behind status
+  pub serves : OpensUntold found start new before behind status ⊎ ServesOpened found start new bytes rest before behind status
 
 abbrev pub Runs : Option (List ℕ) → State → State → Option (List ℕ) → Option (List ℕ) → ℕ → Type 0
-Runs all was new before behind status = (Untaken before behind status × LosesNone was new) ⊎ Taken all was new before behind status
+Runs all was new before behind status = Untaken all was new before behind status ⊎ Taken all was new before behind status

@@ -1,5 +1,5 @@
 -- The text that the file of a book keeps: as it is printed, and as `day` reads it.
-use Rattle.std.specs.Prelude.{◌≡◌, ◌⊎◌, ℕ, List, [], ◌++◌, take, Option}
+use Rattle.std.specs.Prelude.{◌≡◌, ◌⊎◌, ℕ, List, [], ◌++◌, take, Option, ⊤}
 use Rattle.std.specs.Io.KnownBytes.{Appends}
 use Rattle.sqlite.specs.State.{State}
 use Rattle.gd_text_part.specs.Texts.{IsWithin}
@@ -11,6 +11,7 @@ use Rattle.gd_journal_store.specs.Pieces.{Piece, Keeps}
 use Rattle.gd_serving.specs.Runs.{AreOf, rows_text, told_text}
 use Rattle.gd_serving.specs.Yields.{Yield, LinesGive}
 use Rattle.gd_serving.specs.declared.failure.Failure.{Failure}
+use Rattle.gd_serving.specs.declared.failure.Failure.TheVariants.{ReadFailed, OutOfMemory, Store, WriteFailed}
 use Rattle.gd_live.specs.Lines.{Gives}
 use Rattle.gd_live.specs.Stands.{Stand}
 use Rattle.gasday_words.specs.declared.order.Command.TheVariants as command
@@ -23,11 +24,18 @@ abbrev pub WritesFront : State → Option (List ℕ) → Option (List ℕ) → T
 WritesFront was before behind =
     Appends before behind [] ⊎ ((ps : List Piece) × Keeps ps was.now × ((n : ℕ) × Appends before behind (take n (rows_text ps))))
 
+-- why not all of a text is printed: the file can't be read, or a write fails
+abbrev pub FailsPrint : Failure → Type 0
+FailsPrint (Store f) = ⊤
+FailsPrint WriteFailed = ⊤
+FailsPrint ReadFailed = ⊥
+FailsPrint OutOfMemory = ⊥
+
 -- The text that the file keeps was written as a whole, with status 0; or bytes at its front, and why no more.
 abbrev pub Prints : State → Option (List ℕ) → Option (List ℕ) → ℕ → Type 0
 Prints was before behind status =
     ((ps : List Piece) × Keeps ps was.now × Appends before behind (rows_text ps) × (status ≡ 0))
-    ⊎ ((mid : Option (List ℕ)) × WritesFront was before mid × ((why : Failure) × TellsFailure mid behind why status))
+    ⊎ ((mid : Option (List ℕ)) × WritesFront was before mid × ((why : Failure) × FailsPrint why × TellsFailure mid behind why status))
 
 -- `day` may answer the text of these pieces with what was told of them, and status 0.
 pub record IsDay (ps : List Piece) : Type 0 where

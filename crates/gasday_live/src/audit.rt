@@ -8,7 +8,8 @@ ghost use Rattle.gd_live.specs.Seen.{at_desk};
 ghost use Rattle.gd_replies.specs.declared.reply.Reply.TheVariants as reply;
 ghost use Rattle.gasday_part.specs.AnswerSeen.{answer_seen};
 ghost use Rattle.gasday_live.specs.Books.{Stands};
-ghost use Rattle.gasday_live.specs.Audits.{Audits, Explains, TellsFault};
+ghost use Rattle.gasday_live.specs.Audits.{Audits};
+ghost use Rattle.gasday_live.specs.Faults.{Explains, TellsFault};
 
 use crate::kept::KeptBook;
 use crate::laws::kept_book_is_day;

@@ -1,13 +1,16 @@
 //! Where a run begins: the book of a file, or one that the head of the input opens.
 
-ghost use Rattle.std.specs.Prelude.{◌≡◌, ◌≢◌, ◌++◌, ◌∷◌, [], List, Option, ℕ, length, IfOk, OnOk};
+ghost use Rattle.std.specs.Prelude.{◌≡◌, ◌++◌, ◌∷◌, [], List, Option, ℕ, length, IfSome, IfOk, IfErr, OnOk};
 ghost use Rattle.std.specs.Io.KnownBytes.{Consumes};
 ghost use Rattle.sqlite.specs.Effect.{Database};
 ghost use Rattle.sqlite.specs.Held.{state};
 ghost use Rattle.sqlite.specs.State.{HasCleanDisk};
 ghost use Rattle.gd_journal_store.specs.Pieces.{Piece as APiece, Keeps, IsSettled, LeavesNoMore};
 ghost use Rattle.gd_live.specs.Seen.{at_desk};
+ghost use Rattle.gd_opening.specs.Openings.{HasLongOpening};
+ghost use Rattle.gd_text_part.specs.Texts.{BlamesNoRow};
 ghost use Rattle.gasday_part.specs.AnswerSeen.{answer_seen};
+ghost use Rattle.gasday_live.specs.Beginnings.{ExplainsNoRun, TellsNoRun};
 ghost use Rattle.gasday_live.specs.Runs.{Begins, IsHead, KeptNone, LeavesFront, LosesNone};
 
 use crate::audit::of_replay_fault;
@@ -34,24 +37,46 @@ pub(crate) enum NoRun {
 }
 
 impl From<StoreFault> for NoRun {
+    ghost use Rattle.std.specs.Prelude.{◌≡◌};
+    ghost use Rattle.gd_serving.specs.declared.replaying.ReplayFault.TheVariants.{Store};
+    ghost use Rattle.gasday_live.specs.declared.beginning.NoRun.TheVariants.{File};
+
+    ghost from_gives = { λ fault why. why ≡ File (Store fault) };
+
     fn from(fault: StoreFault) -> NoRun {
         NoRun::File(ReplayFault::Store(fault))
     }
 }
 
 impl From<ReplayFault> for NoRun {
+    ghost use Rattle.std.specs.Prelude.{◌≡◌};
+    ghost use Rattle.gasday_live.specs.declared.beginning.NoRun.TheVariants.{File};
+
+    ghost from_gives = { λ fault why. why ≡ File fault };
+
     fn from(fault: ReplayFault) -> NoRun {
         NoRun::File(fault)
     }
 }
 
 impl From<NoBook> for NoRun {
-    fn from(why: NoBook) -> NoRun {
-        NoRun::Opening(why)
+    ghost use Rattle.std.specs.Prelude.{◌≡◌};
+    ghost use Rattle.gasday_live.specs.declared.beginning.NoRun.TheVariants.{Opening};
+
+    ghost from_gives = { λ fault why. why ≡ Opening fault };
+
+    fn from(fault: NoBook) -> NoRun {
+        NoRun::Opening(fault)
     }
 }
 
 impl From<TextFault> for NoRun {
+    ghost use Rattle.std.specs.Prelude.{◌≡◌};
+    ghost use Rattle.gasday_part.specs.declared.opened.NoBook.TheVariants.{Fault};
+    ghost use Rattle.gasday_live.specs.declared.beginning.NoRun.TheVariants.{Opening};
+
+    ghost from_gives = { λ fault why. why ≡ Opening (Fault fault) };
+
     fn from(fault: TextFault) -> NoRun {
         NoRun::Opening(NoBook::Fault(fault))
     }
@@ -70,6 +95,7 @@ fn read_head<R: Read>(alloc: Global, reader: &mut R) -> Result<(Vec<u8>, Vec<u8>
     ensures head { IfOk result (λ p. IsHead p.0.items p.1.items) }
     ensures bytes { IfOk result (λ p. Consumes (R.remaining reader.old) (R.remaining reader.new)
         (p.0.items ++ p.1.items)) }
+    ensures fault { IfErr result (BlamesNoRow (IfSome (R.remaining reader.old) HasLongOpening)) }
 {
     let Opening {
         text,
@@ -104,6 +130,9 @@ fn begin_new<S: Alter, R: Read>(
         → (HasCleanDisk new → KeptNone had × IsSettled [] (state S.Store conn.old))
         → IfOk result (λ b. Begins had (R.remaining reader.old) (R.remaining reader.new) b.bytes.items
         b.book.calls b.next (at_desk b.book.desk) new) }
+    ensures unbegun { let new = state S.Store conn.new in (had : Database)
+        → (HasCleanDisk new → KeptNone had)
+        → IfErr result (ExplainsNoRun (R.remaining reader.old) had new) }
     ensures any_moment { HasCleanDisk (state S.Store conn.new) → IsSettled [] (state S.Store conn.old)
         → LeavesFront [] (state S.Store conn.new) }
     ensures clean { HasCleanDisk (state S.Store conn.new) → HasCleanDisk (state S.Store conn.old) }
@@ -138,6 +167,10 @@ fn begin_again<S: Alter>(
         → (HasCleanDisk new → (ps : List APiece) × Keeps ps had × IsSettled ps (state S.Store conn.old)
         × (count ≡ length ps))
         → IfOk result (λ b. Begins had input input b.bytes.items b.book.calls b.next (at_desk b.book.desk) new) }
+    ensures unbegun { let new = state S.Store conn.new in (had : Database) (input : Option (List ℕ))
+        → (HasCleanDisk new → (ps : List APiece) × Keeps ps had × IsSettled ps (state S.Store conn.old)
+        × (count ≡ length ps))
+        → IfErr result (ExplainsNoRun input had new) }
     ensures any_moment { let new = state S.Store conn.new in HasCleanDisk new
         → LeavesNoMore (state S.Store conn.old) new }
     ensures clean { HasCleanDisk (state S.Store conn.new) → HasCleanDisk (state S.Store conn.old) }
@@ -162,6 +195,8 @@ pub(crate) fn begin<S: Alter, R: Read>(
 ) -> Result<Begun, NoRun>
     ensures begun { IfOk result (λ b. Begins (state S.Store conn.old).now (R.remaining reader.old)
         (R.remaining reader.new) b.bytes.items b.book.calls b.next (at_desk b.book.desk) (state S.Store conn.new)) }
+    ensures unbegun { IfErr result (ExplainsNoRun (R.remaining reader.old)
+        (state S.Store conn.old).now (state S.Store conn.new)) }
     ensures lost { LosesNone (state S.Store conn.old) (state S.Store conn.new) }
     ensures clean { HasCleanDisk (state S.Store conn.new) → HasCleanDisk (state S.Store conn.old) }
 {
@@ -177,7 +212,7 @@ pub(crate) fn begin<S: Alter, R: Read>(
 
 /// The answer of a run that takes no line. Want of memory is handed on as such.
 pub(crate) fn of_no_run(alloc: Global, why: NoRun) -> Result<Answer, AllocError>
-    ensures { IfOk result (λ a. (answer_seen a).status ≢ 0) }
+    ensures { IfOk result (λ a. TellsNoRun why (answer_seen a)) }
 {
     match why {
         NoRun::Opening(why) => of_no_book(alloc, why),

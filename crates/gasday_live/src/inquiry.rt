@@ -7,8 +7,8 @@ ghost use Rattle.gd_journal_store.specs.Pieces.{LeavesNoMore};
 ghost use Rattle.gd_machine.specs.Headline.{Holds};
 ghost use Rattle.gd_live.specs.Seen.{at_desk};
 ghost use Rattle.gasday_part.specs.Inquiries.{PrintsInquiry};
-ghost use Rattle.gasday_live.specs.Audits.{Explains};
 ghost use Rattle.gasday_live.specs.Asked.{AsksBook, PrintsKept};
+ghost use Rattle.gasday_live.specs.Faults.{Explains};
 
 use crate::audit::{of_replay_fault, read_all};
 use crate::kept::KeptBook;

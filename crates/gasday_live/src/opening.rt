@@ -1,9 +1,13 @@
 //! The opening of a book.
 
-ghost use Rattle.std.specs.Prelude.{◌≡◌, ◌<◌, [], length, IfOk, MatchOption};
+ghost use Rattle.std.specs.Prelude.{◌≡◌, ◌≢◌, ◌<◌, ◌+◌, [], length, take, IfOk, IfErr, MatchOption};
 ghost use Rattle.gd_day.specs.Calls.{calls_of};
 ghost use Rattle.gd_live.specs.Seen.{at_desk};
+ghost use Rattle.gd_text_part.specs.declared.fault.Cause.TheVariants as cause;
+ghost use Rattle.gd_text_part.specs.declared.fault.TextFault.TheVariants as fault;
+ghost use Rattle.gasday_part.specs.declared.opened.NoBook.TheVariants as none;
 ghost use Rattle.gasday_live.specs.Books.{OpensSo, stand_behind};
+ghost use Rattle.gasday_live.specs.Unopened.{OpensNone};
 
 use gasday_part::{NoBook, open_book};
 use gd_book::Book;
@@ -34,7 +38,8 @@ impl Opened {
 
 /// The first row that is a call, counted from 0.
 fn first_call(rows: &[Row]) -> Option<usize>
-    ensures { MatchOption result (calls_of rows.now ≡ []) (λ at. at < length rows.now) }
+    ensures { MatchOption result (calls_of rows.now ≡ []) (λ at. (at < length rows.now)
+        × (calls_of (take at rows.now) ≡ []) × (calls_of (take (at + 1) rows.now) ≢ [])) }
 {
     let mut at = 0;
     'rows: for row in rows {
@@ -47,7 +52,10 @@ fn first_call(rows: &[Row]) -> Option<usize>
 }
 
 /// The fault of a quotation mark where a live row has none: `rows` rows are before its own.
-fn quoted(rows: usize) -> NoBook {
+fn quoted(rows: usize) -> NoBook
+    ensures { rows < 18446744073709551615
+        → result ≡ none.Fault (fault.Row (rows + 1) cause.FieldCount) }
+{
     NoBook::Fault(TextFault::at((rows as u64).saturating_add(1), Cause::FieldCount))
 }
 
@@ -58,7 +66,8 @@ fn quoted(rows: usize) -> NoBook {
 /// As `rows_in` and `open_book` tell them; and `FieldCount` at a row that is a call, or at an open quote, which only a quotation
 /// mark can bring into whole lines before the first one that is of calls.
 pub(crate) fn open_opening(alloc: Global, text: &[u8]) -> Result<Opened, NoBook>
-    ensures { IfOk result (λ o. OpensSo text.now o.book o.rows o.bytes) }
+    ensures opened { IfOk result (λ o. OpensSo text.now o.book o.rows o.bytes) }
+    ensures refused { IfErr result (OpensNone text.now) }
 {
     let rows = match rows_in(alloc, Form::Day, text) {
         Ok(rows) => rows,

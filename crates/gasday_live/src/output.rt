@@ -3,7 +3,9 @@
 ghost use Rattle.std.specs.Prelude.{◌≡◌, [], ◌∷◌, IfOk, IfErr, IsTrue, IsFalse};
 ghost use Rattle.std.specs.Io.KnownBytes.{Appends};
 ghost use Rattle.gd_replies.specs.Lines.{lines_of};
-ghost use Rattle.gasday_live.specs.Runs.{TellsFailure, TellsFinish, Untaken};
+ghost use Rattle.gasday_part.specs.Answers.{one};
+ghost use Rattle.gasday_part.specs.Output as output;
+ghost use Rattle.gasday_live.specs.Runs.{TellsFailure, TellsFinish};
 
 use crate::audit::store_row;
 use crate::lines::Ending;
@@ -18,7 +20,7 @@ use std::io::Write;
 pub(crate) fn tell<W: Write>(alloc: Global, writer: &mut W, row: Reply) -> bool
     ensures told { IsTrue result → Appends (W.contents writer.old) (W.contents writer.new)
         (lines_of (row ∷ [])) }
-    ensures untold { IsFalse result → Untaken (W.contents writer.old) (W.contents writer.new) 2 }
+    ensures untold { IsFalse result → output.Written (W.contents writer.old) (W.contents writer.new) 2 (one row 2) }
 {
     if write_answer(alloc, writer, &of_one(alloc, row, 0)) != 0 {
         return false;

@@ -1,11 +1,11 @@
 //! A run on a book's file.
 
-ghost use Rattle.std.specs.Prelude.{◌≡◌, ◌⊎◌, List, ℕ};
+ghost use Rattle.std.specs.Prelude.{◌⊎◌, List, ℕ};
 ghost use Rattle.sqlite.specs.Effect.{Database};
 ghost use Rattle.sqlite.specs.Held.{state};
 ghost use Rattle.sqlite.specs.State.{HasCleanDisk};
 ghost use Rattle.gd_live.specs.Seen.{at_desk};
-ghost use Rattle.gasday_live.specs.Runs.{IsBegun, Runs, ServesOpened, Untaken, found_at};
+ghost use Rattle.gasday_live.specs.Runs.{IsBegun, OpensUntold, Runs, ServesOpened, found_at};
 
 use crate::beginning::{Begun, begin, of_no_run};
 use crate::lines::serve_lines;
@@ -27,8 +27,8 @@ fn serve_begun<S: Alter, R: Read + Drop, W: Write>(
 ) -> Written
     ensures run { (had : Database) (head : List ℕ)
         → IsBegun (found_at had head begun.book.calls) begun.next (at_desk begun.book.desk) (state S.Store conn.old)
-        → (Untaken (W.contents writer.old) (W.contents writer.new) result.status
-        × (conn.new ≡ conn.old))
+        → OpensUntold (found_at had head begun.book.calls) (at_desk begun.book.desk) (state S.Store conn.new)
+        (W.contents writer.old) (W.contents writer.new) result.status
         ⊎ ServesOpened (found_at had head begun.book.calls) (at_desk begun.book.desk) (state S.Store conn.new)
         begun.bytes.items (R.remaining reader) (W.contents writer.old) (W.contents writer.new) result.status }
     ensures clean { HasCleanDisk (state S.Store conn.new) → HasCleanDisk (state S.Store conn.old) }

@@ -1,13 +1,13 @@
 //! The text that a book's file keeps.
 
-ghost use Rattle.std.specs.Prelude.{◌≡◌, ◌≤◌, ℕ, List, length, map, take, OnOk};
+ghost use Rattle.std.specs.Prelude.{◌≡◌, ◌≤◌, ℕ, List, length, map, take, OnOk, IfErr};
 ghost use Rattle.std.specs.Io.KnownBytes.{Appends};
 ghost use Rattle.sqlite.specs.Held.{state};
 ghost use Rattle.sqlite.specs.State.{HasCleanDisk};
 ghost use Rattle.gd_journal_store.specs.Pieces.{Piece as APiece, Keeps, LeavesNoMore};
 ghost use Rattle.gd_journal_store.specs.Seen.{seen};
 ghost use Rattle.gd_serving.specs.Runs.{rows_text};
-ghost use Rattle.gasday_live.specs.Texts.{Prints, WritesFront};
+ghost use Rattle.gasday_live.specs.Texts.{FailsPrint, Prints, WritesFront};
 
 use crate::output::{tell_failure, told_nothing};
 use gasday_part::Written;
@@ -25,6 +25,7 @@ const BATCH: u32 = 256;
 fn write_pieces<W: Write>(writer: &mut W, all: &[Piece]) -> Result<(), Failure>
     ensures all { OnOk result (Appends (W.contents writer.old) (W.contents writer.new)
         (rows_text (map seen all.now))) }
+    ensures failed { IfErr result FailsPrint }
     ensures front { (n : ℕ) × (n ≤ length (rows_text (map seen all.now)))
         × Appends (W.contents writer.old) (W.contents writer.new) (take n (rows_text (map seen all.now))) }
 {
@@ -50,6 +51,7 @@ pub fn write_text<S: Alter, W: Write>(
     ensures text { HasCleanDisk (state S.Store conn.new) → OnOk result ((ps : List APiece)
         × Keeps ps (state S.Store conn.old).now
         × Appends (W.contents writer.old) (W.contents writer.new) (rows_text ps)) }
+    ensures failed { IfErr result FailsPrint }
     ensures front { HasCleanDisk (state S.Store conn.new) → WritesFront (state S.Store conn.old)
         (W.contents writer.old) (W.contents writer.new) }
     ensures any_moment { let new = state S.Store conn.new in HasCleanDisk new

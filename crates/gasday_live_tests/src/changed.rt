@@ -29,7 +29,7 @@ const CHANGES: [(&str, u8, &[u8]); 11] = [
 
 /// Changes a file by hand.
 #[derive(Drop)]
-struct Changing<'a>(&'a str);
+pub(crate) struct Changing<'a>(pub(crate) &'a str);
 
 impl<'a> Work for Changing<'a> {
     fn is_well<T: Threads + Sync, S: Alter>(

@@ -36,6 +36,28 @@ pub(crate) fn new_disks(alloc: Global, calls: u64) -> Disks {
     }
 }
 
+/// A disk of these bytes, which does not stop.
+fn disk_of(rt: &impl Abort, alloc: Global, bytes: &[u8]) -> Fuse<Memory> {
+    let mut disk = Memory::new(alloc);
+    let is_filled = disk.write_at(0, bytes).is_ok() && disk.sync().is_ok();
+    assert!(rt; is_filled);
+    Fuse::new(disk, u64::MAX)
+}
+
+/// Disks of the same bytes, which do not stop.
+pub(crate) fn copied(rt: &impl Abort, alloc: Global, disks: &Disks) -> Disks {
+    Files {
+        log: disk_of(rt, alloc, disks.log.inner().bytes()),
+        db: disk_of(rt, alloc, disks.db.inner().bytes()),
+    }
+}
+
+/// Whether two pairs of disks have the same bytes.
+pub(crate) fn are_same(some: &Disks, others: &Disks) -> bool {
+    some.log.inner().bytes() == others.log.inner().bytes()
+        && some.db.inner().bytes() == others.db.inner().bytes()
+}
+
 /// Hands a file to some work, whose answer comes with the store.
 fn worked_open<S: Alter + Drop, W: Work>(
     rt: &(impl Threads + Sync),

@@ -66,20 +66,30 @@ fn cut_anywhere_it_is_told_the_same(rt: HostRuntime) {
     }
 }
 
-/// A call, an empty line and a row that is none.
+/// A call, an empty line, rows that are none, and calls behind rows that they don't take.
 const FAULTY: &[u8] = b"nominate,1772910900,SHIP,INT,P,R1,D1,70
 
-respond,1772910902,OPR,1,orgin,70,,
+respond,1772910902,OPR,1,orgin,70,,\r
+\"skip\",1772910902,,,,,,
+carry,INT,P,R1,D1,5,,
+sched,1,70,,,,,
+skip,1772910903,,,,,,
+price,S2,4,1,,,,
+publish,1772910904,1,,,,,
 ";
 
 const FAULTY_TOLD: &[u8] = b"opened,DEMO,0,0,,,,
 accepted,1,1,1,,,,
 
 fault,2,BadField,5,,,,
+fault,3,FieldCount,,,,,
+fault,4,Order,,,,,
+fault,5,Order,,,,,
+fault,7,UnknownElement,,,,,
 ";
 
 /// Runs one after the other, of which one opens a book and one keeps a call: a call where no book is, an opening that ends within
-/// a row, the opening, a faulty row, and a call that ends within a row.
+/// a row, the opening, faulty rows, and a call that ends within a row.
 #[test]
 fn faults_are_told_and_not_kept(rt: HostRuntime) {
     let [opening, first, _] = parts();

@@ -1,5 +1,5 @@
 -- The forms of the command line.
-use Rattle.std.proofs.Common.{All, drop, ◌≡◌, ◌==◌, ◌∙◌, ◌⊎◌, ℕ, [], ◌∷◌, List, Bool, false, Option, Some, None, true, refl, sym, ap, subst, inl, inr, codes, is_some, map, Result, Ok, Err, IfOk, IfErr, OnOk}
+use Rattle.std.proofs.Common.{All, drop, ◌≡◌, ◌==◌, ◌++◌, ◌∙◌, ◌⊎◌, ℕ, [], ◌∷◌, List, Bool, false, Option, Some, None, true, refl, sym, ap, subst, inl, inr, codes, is_some, map, Result, Ok, Err, IfOk, IfErr, OnOk}
 use Rattle.std.specs.Fmt.{decimal}
 use Rattle.std.specs.Option.{option_and_then, option_map}
 use Rattle.std.proofs.lemmas.Option.{same_Some}
@@ -16,13 +16,13 @@ use Rattle.gasday_words.specs.declared.fault.UsageFault.{UsageFault}
 use Rattle.gasday_words.specs.declared.fault.UsageFault.TheVariants.{Help, Version, Usage, OutOfMemory}
 use Rattle.gasday_words.specs.declared.order.Command.TheVariants.{CheckAllowed, CheckBest, CheckCut, Solve, Calendar, Day, Office}
 use Rattle.gasday_words.specs.Ordered as ordered
-use Rattle.gasday_words.specs.Ordered.{Ordered, Requested, requested, without_texts}
+use Rattle.gasday_words.specs.Ordered.{Ordered, Requested, over_texts, requested, waiting, without_texts}
 use Rattle.gasday_words.specs.Meaning as spec
-use Rattle.gasday_words.specs.Meaning.{gasday, meaning_of, arguments, cycle_named, cycles, forms, forms_with, day_forms_with, clashes, helps, round_named, versions, request_from, request_in}
-use Rattle.gasday_words.specs.Outcomes.{IsHelp, IsRequest, IsTold, IsUsageAnswer, IsVersion, RefusesClashes, RefusesNumbers, TakesDays, TakesFiles, TakesForm, TakesForms, TakesHelps, TakesOver, TakesRounds, TakesTexts, TakesVersions}
+use Rattle.gasday_words.specs.Meaning.{gasday, meaning_of, arguments, cycle_named, cycles, forms, forms_with, day_forms_with, clashes, helps, number_named, versions, request_from, request_in}
+use Rattle.gasday_words.specs.Outcomes.{IsHelp, IsRequest, IsTold, IsUsageAnswer, IsVersion, RefusesClashes, RefusesNumbers, TakesDays, TakesFiles, TakesForm, TakesForms, TakesHelps, TakesOver, TakesRounds, TakesTexts, TakesVersions, TakesWaits}
 use Rattle.gasday_words.proofs.Entering.{Meets, left_to}
 use Rattle.gasday_words.proofs.Plain.{Word, fault_is, faults, known, level, level_is, named, plain, rows, rows_are, text_of}
-use Rattle.gasday_words.proofs.Rounds.{decimal_is_plain, decimal_names}
+use Rattle.gasday_words.proofs.Numbers.{decimal_is_plain, decimal_names}
 
 pub is_simple_gasday : is_simple gasday ≡ true
 unfolding clap_on_literals
@@ -184,7 +184,7 @@ module _ (words : List Text) (r : Result Request UsageFault) (by : IsClaps words
 
 -- an order over these texts
 abbrev over : Ordered → List Word → Requested
-over o vs = record { order = o; texts = map text_of vs }
+over o vs = over_texts o (map text_of vs)
 
 -- words of each command that answers a text are answered by it, over standard input
 pub takes_forms : (words : List Text) (r : Result Request UsageFault) → IsClaps words r → TakesForms words r
@@ -285,7 +285,7 @@ takes_days words r by c file filed a b rest others other another =
 
 -- the request that an order alone makes, where there is one
 abbrev alone_in : Option Ordered → Option Requested
-alone_in = option_map (λ o. without_texts o)
+alone_in = option_and_then (λ o. Some (without_texts o))
 
 -- words that name a question by a cycle and a round are answered by its order
 pub takes_rounds : (words : List Text) (r : Result Request UsageFault) → IsClaps words r → TakesRounds words r
@@ -322,7 +322,55 @@ refuses_numbers words r by a b c file cycle round other another third =
     let R = named c round third in
     let is = refused words r by (codes "question") spec.question question in (
       (λ none h. is (F ∷ C ∷ []) refl h refl (ap (λ (found : Option ℕ). alone_in (option_map (λ k. ordered.Question (a ∷ file) k None) found)) none)),
-      λ none h. is (F ∷ C ∷ R ∷ []) refl h refl (ap alone_in (no_question (a ∷ file) (cycle_named (b ∷ cycle)) (round_named (c ∷ round)) none)),
+      λ none h. is (F ∷ C ∷ R ∷ []) refl h refl (ap alone_in (no_question (a ∷ file) (cycle_named (b ∷ cycle)) (number_named (c ∷ round)) none)),
+    )
+
+-- the request of an order that waits as long as a word says, where that names a number
+abbrev waiting_so : Ordered → Option ℕ → Option Requested
+waiting_so o = option_map (λ n. waiting o n)
+
+-- words of each form that names a file, with `--wait` behind them, are answered by its order, which waits; or by a usage fault
+pub takes_waits : (words : List Text) (r : Result Request UsageFault) → IsClaps words r → TakesWaits words r
+unfolding clap_on_literals
+takes_waits words r by a c rest word other another =
+    let file = a ∷ rest in
+    let F = named a rest other in
+    let W = known (codes "--wait") in
+    let V = named c word another in
+    let all = forms_with file in
+    let no = refused words r by in
+    let Q : List Text × Ordered → Type 0 = λ form. arguments words ≡ form.0 ++ codes "--wait" ∷ (c ∷ word) ∷ [] → IsUsageAnswer r in (
+      (λ n low high.
+          let P : List Text × Ordered → Type 0 = λ form. arguments words ≡ form.0 ++ codes "--wait" ∷ decimal n ∷ [] → IsRequest (waiting form.1 n) r in
+          let N = plain (decimal n) (decimal_is_plain n low high) in
+          let is = answered_by words r by in
+          let so = λ (o : Ordered). ap (waiting_so o) (decimal_names n low high) in
+          All-cons P _ (drop 1 all) (λ h. is (codes "day") spec.day day (known (codes "--archive") ∷ F ∷ W ∷ N ∷ []) refl h (waiting (ordered.ArchivedDay file) n) (so (ordered.ArchivedDay file)))
+          (All-cons P _ (drop 2 all) (λ h. is (codes "day") spec.day day (known (codes "--book") ∷ F ∷ W ∷ N ∷ []) refl h (waiting (ordered.LiveDay file) n) (so (ordered.LiveDay file)))
+          (All-cons P _ (drop 3 all) (λ h. is (codes "audit") spec.audit audit (F ∷ W ∷ N ∷ []) refl h (waiting (ordered.Audit file) n) (so (ordered.Audit file)))
+          (All-cons P _ (drop 4 all) (λ h. is (codes "text") spec.book_text book_text (F ∷ W ∷ N ∷ []) refl h (waiting (ordered.BookText file) n) (so (ordered.BookText file)))
+          (All-cons P _ (drop 5 all) (λ h. is (codes "question") spec.question question (F ∷ known (codes "1") ∷ W ∷ N ∷ []) refl h (waiting (ordered.Question file 1 None) n) (so (ordered.Question file 1 None)))
+          (All-cons P _ (drop 6 all) (λ h. is (codes "question") spec.question question (F ∷ known (codes "2") ∷ W ∷ N ∷ []) refl h (waiting (ordered.Question file 2 None) n) (so (ordered.Question file 2 None)))
+          (All-cons P _ (drop 7 all) (λ h. is (codes "question") spec.question question (F ∷ known (codes "3") ∷ W ∷ N ∷ []) refl h (waiting (ordered.Question file 3 None) n) (so (ordered.Question file 3 None)))
+          (All-cons P _ (drop 8 all) (λ h. is (codes "question") spec.question question (F ∷ known (codes "4") ∷ W ∷ N ∷ []) refl h (waiting (ordered.Question file 4 None) n) (so (ordered.Question file 4 None)))
+          (All-cons P _ (drop 9 all) (λ h. is (codes "question") spec.question question (F ∷ known (codes "5") ∷ W ∷ N ∷ []) refl h (waiting (ordered.Question file 5 None) n) (so (ordered.Question file 5 None)))
+          (All-cons P _ (drop 10 all) (λ h. is (codes "carry") spec.carry carry (F ∷ W ∷ N ∷ []) refl h (waiting (ordered.Carry file) n) (so (ordered.Carry file)))
+          (All-cons P _ (drop 11 all) (λ h. is (codes "migrate") spec.migrate migrate (F ∷ W ∷ N ∷ []) refl h (waiting (ordered.Migrate file) n) (so (ordered.Migrate file)))
+          (All-nil P)))))))))))),
+      λ none.
+          let so = λ (o : Ordered). ap (waiting_so o) none in
+          All-cons Q _ (drop 1 all) (λ h. no (codes "day") spec.day day (known (codes "--archive") ∷ F ∷ W ∷ V ∷ []) refl h refl (so (ordered.ArchivedDay file)))
+          (All-cons Q _ (drop 2 all) (λ h. no (codes "day") spec.day day (known (codes "--book") ∷ F ∷ W ∷ V ∷ []) refl h refl (so (ordered.LiveDay file)))
+          (All-cons Q _ (drop 3 all) (λ h. no (codes "audit") spec.audit audit (F ∷ W ∷ V ∷ []) refl h refl (so (ordered.Audit file)))
+          (All-cons Q _ (drop 4 all) (λ h. no (codes "text") spec.book_text book_text (F ∷ W ∷ V ∷ []) refl h refl (so (ordered.BookText file)))
+          (All-cons Q _ (drop 5 all) (λ h. no (codes "question") spec.question question (F ∷ known (codes "1") ∷ W ∷ V ∷ []) refl h refl (so (ordered.Question file 1 None)))
+          (All-cons Q _ (drop 6 all) (λ h. no (codes "question") spec.question question (F ∷ known (codes "2") ∷ W ∷ V ∷ []) refl h refl (so (ordered.Question file 2 None)))
+          (All-cons Q _ (drop 7 all) (λ h. no (codes "question") spec.question question (F ∷ known (codes "3") ∷ W ∷ V ∷ []) refl h refl (so (ordered.Question file 3 None)))
+          (All-cons Q _ (drop 8 all) (λ h. no (codes "question") spec.question question (F ∷ known (codes "4") ∷ W ∷ V ∷ []) refl h refl (so (ordered.Question file 4 None)))
+          (All-cons Q _ (drop 9 all) (λ h. no (codes "question") spec.question question (F ∷ known (codes "5") ∷ W ∷ V ∷ []) refl h refl (so (ordered.Question file 5 None)))
+          (All-cons Q _ (drop 10 all) (λ h. no (codes "carry") spec.carry carry (F ∷ W ∷ V ∷ []) refl h refl (so (ordered.Carry file)))
+          (All-cons Q _ (drop 11 all) (λ h. no (codes "migrate") spec.migrate migrate (F ∷ W ∷ V ∷ []) refl h refl (so (ordered.Migrate file)))
+          (All-nil Q))))))))))),
     )
 
 -- words of each form that names two files for one gas day are answered by a usage fault

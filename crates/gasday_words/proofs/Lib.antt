@@ -2,6 +2,6 @@ pub mod Commands
 pub mod Entering
 pub mod Forms
 pub mod Plain
-pub mod Rounds
+pub mod Numbers
 pub mod Rows
 pub mod Telling

@@ -45,6 +45,10 @@ archive = record (new_rule (codes "archive")) { value_names = 1; long = Some (co
 abbrev pub book : Rule
 book = record (new_rule (codes "book")) { value_names = 1; long = Some (codes "book") }
 
+-- `--wait SECONDS`, which may be left out
+abbrev pub wait : Rule
+wait = record (new_rule (codes "wait")) { value_names = 1; long = Some (codes "wait") }
+
 -- `check WHAT [TEXT]..`
 abbrev pub check : App
 check = with_rule (with_rule (new_app (codes "check")) what) texts
@@ -57,33 +61,33 @@ solve = with_rule (new_app (codes "solve")) texts
 abbrev pub calendar : App
 calendar = with_rule (new_app (codes "calendar")) texts
 
--- `day [--archive FILE] [--book FILE] [TEXT]..`
+-- `day [--archive FILE] [--book FILE] [--wait SECONDS] [TEXT]..`
 abbrev pub day : App
-day = with_rule (with_rule (with_rule (new_app (codes "day")) archive) book) texts
+day = with_rule (with_rule (with_rule (with_rule (new_app (codes "day")) archive) book) wait) texts
 
 -- `office [TEXT]..`
 abbrev pub office : App
 office = with_rule (new_app (codes "office")) texts
 
--- `audit FILE`
+-- `audit [--wait SECONDS] FILE`
 abbrev pub audit : App
-audit = with_rule (new_app (codes "audit")) file
+audit = with_rule (with_rule (new_app (codes "audit")) wait) file
 
--- `text FILE`
+-- `text [--wait SECONDS] FILE`
 abbrev pub book_text : App
-book_text = with_rule (new_app (codes "text")) file
+book_text = with_rule (with_rule (new_app (codes "text")) wait) file
 
--- `question FILE CYCLE [ROUND]`
+-- `question [--wait SECONDS] FILE CYCLE [ROUND]`
 abbrev pub question : App
-question = with_rule (with_rule (with_rule (new_app (codes "question")) file) cycle) round
+question = with_rule (with_rule (with_rule (with_rule (new_app (codes "question")) wait) file) cycle) round
 
--- `carry FILE`
+-- `carry [--wait SECONDS] FILE`
 abbrev pub carry : App
-carry = with_rule (new_app (codes "carry")) file
+carry = with_rule (with_rule (new_app (codes "carry")) wait) file
 
--- `migrate FILE`
+-- `migrate [--wait SECONDS] FILE`
 abbrev pub migrate : App
-migrate = with_rule (new_app (codes "migrate")) file
+migrate = with_rule (with_rule (new_app (codes "migrate")) wait) file
 
 -- a command that can tell its version
 abbrev pub with_version : App → App
@@ -133,19 +137,19 @@ cycle_named word =
     else if bytes_eq word (codes "5") then Some 5
     else None
 
--- the greatest round
-abbrev pub most_rounds : ℕ
-most_rounds = 1_000_000
+-- the greatest number that a word may name, since a gas day has no more rounds
+abbrev pub most_number : ℕ
+most_number = 1_000_000
 
--- the round that a word names, which is a number as clap reads one: decimal digits, before which a plus may stand
-abbrev pub round_named : Text → Option ℕ
-round_named word = if is_unsigned_in 1 most_rounds word then Some (digits_value 10 (without_leading_plus word)) else None
+-- the number that a word names, as clap reads one: decimal digits, before which a plus may stand
+abbrev pub number_named : Text → Option ℕ
+number_named word = if is_unsigned_in 1 most_number word then Some (digits_value 10 (without_leading_plus word)) else None
 
 -- the frozen question of this file, in the cycle and the round that the words name; without a round it is the last one
 abbrev pub question_of : Option Text → Option Text → Option Text → Option Ordered
 question_of (Some file) (Some cycle) None = option_map (λ c. ordered.Question file c None) (cycle_named cycle)
 question_of (Some file) (Some cycle) (Some round) =
-    option_and_then (λ c. option_map (λ r. ordered.Question file c (Some r)) (round_named round)) (cycle_named cycle)
+    option_and_then (λ c. option_map (λ r. ordered.Question file c (Some r)) (number_named round)) (cycle_named cycle)
 question_of _ _ _ = None
 
 -- the same, of what `question` was given
@@ -171,10 +175,16 @@ order_from name given =
 abbrev pub texts_in : List Row → List Text
 texts_in given = unwrap_or (all_of (codes "text") given) []
 
+-- the seconds of which the word after `--wait` tells; without it there are none
+abbrev pub seconds_in : Option Text → Option ℕ
+seconds_in None = Some 0
+seconds_in (Some word) = number_named word
+
 -- the request of a subcommand's name and of what it was given
 abbrev pub request_from : Text → List Row → Option Requested
 request_from name given =
-    option_map (λ o. record { order = o; texts = texts_in given }) (order_from name given)
+    option_and_then (λ o. option_map (λ s. record { order = o; texts = texts_in given; wait = s }) (seconds_in (first_of (codes "wait") given)))
+    (order_from name given)
 
 -- the request of the subcommand that was met: with none it is `check allowed`
 abbrev pub request_in : Option (Text × List Row) → Option Requested

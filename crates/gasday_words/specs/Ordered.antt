@@ -28,15 +28,24 @@ seen (order.Question file cycle round) = Question file.now cycle round
 seen (order.Carry file) = Carry file.now
 seen (order.Migrate file) = Migrate file.now
 
--- an order, with the files that make up its text
+-- an order, with the files that make up its text, and for how many seconds it waits for its file
 pub record Requested : Type 0 where
   pub order : Ordered
   pub texts : List (List ℕ)
+  pub wait : ℕ
 
--- an order that names no texts
+-- an order over these texts, which doesn't wait
+abbrev pub over_texts : Ordered → List (List ℕ) → Requested
+over_texts o texts = record { order = o; texts = texts; wait = 0 }
+
+-- an order that names no texts, and doesn't wait
 abbrev pub without_texts : Ordered → Requested
-without_texts o = record { order = o; texts = [] }
+without_texts o = over_texts o []
+
+-- an order that names no texts, and waits so long
+abbrev pub waiting : Ordered → ℕ → Requested
+waiting o wait = record { order = o; texts = []; wait = wait }
 
 -- a request as a clause sees it
 abbrev pub requested : Request → Requested
-requested r = record { order = seen r.order; texts = map (λ t. t.now) r.texts.items }
+requested r = record { order = seen r.order; texts = map (λ t. t.now) r.texts.items; wait = r.wait }

@@ -10,8 +10,8 @@ use Rattle.gasday_words.specs.declared.order.Request.{Request}
 use Rattle.gasday_words.specs.declared.fault.UsageFault.{UsageFault}
 use Rattle.gasday_words.specs.declared.fault.UsageFault.TheVariants.{Help, Version, Usage, OutOfMemory}
 use Rattle.gasday_words.specs.Ordered as ordered
-use Rattle.gasday_words.specs.Ordered.{Ordered, Requested, requested, without_texts}
-use Rattle.gasday_words.specs.Meaning.{gasday, meaning_of, arguments, cycle_named, cycles, forms, forms_with, day_forms_with, clashes, helps, most_rounds, round_named, versions}
+use Rattle.gasday_words.specs.Ordered.{Ordered, Requested, over_texts, requested, waiting, without_texts}
+use Rattle.gasday_words.specs.Meaning.{gasday, meaning_of, arguments, cycle_named, cycles, forms, forms_with, day_forms_with, clashes, helps, most_number, number_named, versions}
 
 -- what is left of a request where clap finds these kinds of fault in the words
 abbrev pub unless_at_fault : Kinds → Option Requested → Option Requested
@@ -80,7 +80,7 @@ IsUsageAnswer r = MatchResult r (λ _. ⊥) IsUsage
 -- words of each command that answers a text, with these words behind them, are taken as that command over these texts
 abbrev pub TakesForm : List Text → List Text → Result Request UsageFault → List Text × Command → Type 0
 TakesForm words texts r form =
-    arguments words ≡ form.0 ++ texts → IsRequest (record { order = ordered.Text form.1; texts = texts }) r
+    arguments words ≡ form.0 ++ texts → IsRequest (over_texts (ordered.Text form.1) texts) r
 
 -- With no words behind the program's name it is `check allowed`, and words of each command that answers a text are taken as
 -- that command, over standard input.
@@ -112,7 +112,7 @@ TakesFiles words r =
 
 -- words of a form that names a file, with these words behind them, are taken as its order over these texts
 abbrev pub TakesOver : List Text → List Text → Result Request UsageFault → List Text × Ordered → Type 0
-TakesOver words texts r form = arguments words ≡ form.0 ++ texts → IsRequest (record { order = form.1; texts = texts }) r
+TakesOver words texts r form = arguments words ≡ form.0 ++ texts → IsRequest (over_texts form.1 texts) r
 
 -- words of each form of a gas day that names a file, whatever its name, with the names of one or two files behind them, are
 -- taken as its order over these files
@@ -130,7 +130,7 @@ RefusesClashes words r =
 -- words that name a question by a cycle and by a round in decimal, whichever they are, are taken as its order, whatever the file
 abbrev pub TakesRounds : List Text → Result Request UsageFault → Type 0
 TakesRounds words r =
-    (b : ℕ) (rest : List ℕ) → (b == hyphen) ≡ false → (n : ℕ) → 1 ≤ n → n ≤ most_rounds
+    (b : ℕ) (rest : List ℕ) → (b == hyphen) ≡ false → (n : ℕ) → 1 ≤ n → n ≤ most_number
     → All (λ cycle. arguments words ≡ codes "question" ∷ (b ∷ rest) ∷ cycle.0 ∷ decimal n ∷ []
     → IsRequest (without_texts (ordered.Question (b ∷ rest) cycle.1 (Some n))) r) cycles
 
@@ -140,8 +140,18 @@ abbrev pub RefusesNumbers : List Text → Result Request UsageFault → Type 0
 RefusesNumbers words r =
     (a b c : ℕ) (file cycle round : List ℕ) → (a == hyphen) ≡ false → (b == hyphen) ≡ false → (c == hyphen) ≡ false
     → (cycle_named (b ∷ cycle) ≡ None → arguments words ≡ codes "question" ∷ (a ∷ file) ∷ (b ∷ cycle) ∷ [] → IsUsageAnswer r)
-    × ((cycle_named (b ∷ cycle) ≡ None) ⊎ (round_named (c ∷ round) ≡ None)
+    × ((cycle_named (b ∷ cycle) ≡ None) ⊎ (number_named (c ∷ round) ≡ None)
     → arguments words ≡ codes "question" ∷ (a ∷ file) ∷ (b ∷ cycle) ∷ (c ∷ round) ∷ [] → IsUsageAnswer r)
+
+-- words of each form that names a file, with `--wait` and a number of seconds in decimal behind them, are taken as its order,
+-- which waits so long, whatever the file; and with a word that is no such number they are a usage fault
+abbrev pub TakesWaits : List Text → Result Request UsageFault → Type 0
+TakesWaits words r =
+    (b c : ℕ) (rest word : List ℕ) → (b == hyphen) ≡ false → (c == hyphen) ≡ false
+    → ((n : ℕ) → 1 ≤ n → n ≤ most_number
+    → All (λ form. arguments words ≡ form.0 ++ codes "--wait" ∷ decimal n ∷ [] → IsRequest (waiting form.1 n) r) (forms_with (b ∷ rest)))
+    × (number_named (c ∷ word) ≡ None
+    → All (λ form. arguments words ≡ form.0 ++ codes "--wait" ∷ (c ∷ word) ∷ [] → IsUsageAnswer r) (forms_with (b ∷ rest)))
 
 -- words of each form that asks for help are answered by help
 abbrev pub TakesHelps : List Text → Result Request UsageFault → Type 0

@@ -70,6 +70,7 @@ pub(crate) fn no_order(alloc: Global, why: NoOrder<'_>) -> UsageFault
         NoOrder::Check(word) => text_of_no_value(alloc, word, "<WHAT>", CHECKS),
         NoOrder::Cycle(word) => text_of_no_value(alloc, word, "<CYCLE>", CYCLES),
         NoOrder::Round(word) => text_of_no_value(alloc, word, "[ROUND]", ""),
+        NoOrder::Wait(word) => text_of_no_value(alloc, word, "--wait <SECONDS>", ""),
         NoOrder::BothFiles => String::from_str(alloc, CLASH),
     };
     match text {

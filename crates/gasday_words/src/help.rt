@@ -449,6 +449,9 @@ for so many calls, accepted or refused, and a history of so many events, of whic
 schedule; and else, with status 1, the first call that gives other rows than the file says were told,
 by its piece and its number over the whole file, where 0 is the opening:
   differs,PIECE,CALL
+A FILE that may not be written, as on a read-only medium, is read as a copy in memory, and nothing is
+written beside it; so do text, question and carry. Where another process has FILE, --wait SECONDS waits up
+to so long for it, 1 to 1,000,000, as it does with every command that names a FILE.
 It reads nothing from standard input.
 
 Examples:

@@ -168,7 +168,20 @@ fn book<'a>(alloc: Global) -> Arg<'a>
         .help(HELP_OF_BOOK)
 }
 
-/// `day [--archive FILE] [--book FILE] [TEXT]..`.
+const HELP_OF_WAIT: &str = "wait so long for FILE where another process has it";
+
+/// `--wait SECONDS`, which may be left out. The program tells numbers apart itself, as it does the checks.
+fn wait<'a>(alloc: Global) -> Arg<'a>
+    ensures rule { rule_of result ≡ spec.wait }
+    ensures local { result.global ≡ false }
+{
+    Arg::new(alloc, "wait")
+        .long("wait")
+        .value_name("SECONDS")
+        .help(HELP_OF_WAIT)
+}
+
+/// `day [--archive FILE] [--book FILE] [--wait SECONDS] [TEXT]..`.
 fn day<'a>(alloc: Global) -> Result<CommandLine<'a>, AllocError>
     ensures app { IfOk result (λ c. app_of c ≡ spec.day) }
     ensures local { IfOk result (λ c. (out-Command c).has_globals ≡ false) }
@@ -182,6 +195,7 @@ fn day<'a>(alloc: Global) -> Result<CommandLine<'a>, AllocError>
     )
     .arg(archive(alloc))?
     .arg(book(alloc))?
+    .arg(wait(alloc))?
     .arg(texts(alloc))
 }
 
@@ -219,7 +233,7 @@ const ABOUT_AUDIT: &str =
 
 const FILE_OF_AUDIT: &str = "the archive or the book's file, a SQLite database";
 
-/// `audit FILE`.
+/// `audit [--wait SECONDS] FILE`.
 fn audit<'a>(alloc: Global) -> Result<CommandLine<'a>, AllocError>
     ensures app { IfOk result (λ c. app_of c ≡ spec.audit) }
     ensures local { IfOk result (λ c. (out-Command c).has_globals ≡ false) }
@@ -231,6 +245,7 @@ fn audit<'a>(alloc: Global) -> Result<CommandLine<'a>, AllocError>
         help::SHORT_OF_AUDIT,
         help::LONG_OF_AUDIT,
     )
+    .arg(wait(alloc))?
     .arg(file(alloc, FILE_OF_AUDIT))
 }
 
@@ -238,7 +253,7 @@ const ABOUT_TEXT: &str = "Prints the text of a gas day that a book's file keeps"
 
 const FILE_OF_TEXT: &str = "the book's file, a SQLite database";
 
-/// `text FILE`.
+/// `text [--wait SECONDS] FILE`.
 fn book_text<'a>(alloc: Global) -> Result<CommandLine<'a>, AllocError>
     ensures app { IfOk result (λ c. app_of c ≡ spec.book_text) }
     ensures local { IfOk result (λ c. (out-Command c).has_globals ≡ false) }
@@ -250,6 +265,7 @@ fn book_text<'a>(alloc: Global) -> Result<CommandLine<'a>, AllocError>
         help::SHORT_OF_TEXT,
         help::LONG_OF_TEXT,
     )
+    .arg(wait(alloc))?
     .arg(file(alloc, FILE_OF_TEXT))
 }
 
@@ -284,7 +300,7 @@ const ABOUT_QUESTION: &str =
 
 const FILE_OF_A_DAY: &str = "the text of a gas day, or a book's file, a SQLite database";
 
-/// `question FILE CYCLE [ROUND]`.
+/// `question [--wait SECONDS] FILE CYCLE [ROUND]`.
 fn question<'a>(alloc: Global) -> Result<CommandLine<'a>, AllocError>
     ensures app { IfOk result (λ c. app_of c ≡ spec.question) }
     ensures local { IfOk result (λ c. (out-Command c).has_globals ≡ false) }
@@ -296,6 +312,7 @@ fn question<'a>(alloc: Global) -> Result<CommandLine<'a>, AllocError>
         help::SHORT_OF_QUESTION,
         help::LONG_OF_QUESTION,
     )
+    .arg(wait(alloc))?
     .arg(file(alloc, FILE_OF_A_DAY))?
     .arg(cycle(alloc))?
     .arg(round(alloc))
@@ -303,7 +320,7 @@ fn question<'a>(alloc: Global) -> Result<CommandLine<'a>, AllocError>
 
 const ABOUT_CARRY: &str = "Prints the carry rows of the next gas day";
 
-/// `carry FILE`.
+/// `carry [--wait SECONDS] FILE`.
 fn carry<'a>(alloc: Global) -> Result<CommandLine<'a>, AllocError>
     ensures app { IfOk result (λ c. app_of c ≡ spec.carry) }
     ensures local { IfOk result (λ c. (out-Command c).has_globals ≡ false) }
@@ -315,6 +332,7 @@ fn carry<'a>(alloc: Global) -> Result<CommandLine<'a>, AllocError>
         help::SHORT_OF_CARRY,
         help::LONG_OF_CARRY,
     )
+    .arg(wait(alloc))?
     .arg(file(alloc, FILE_OF_A_DAY))
 }
 
@@ -322,7 +340,7 @@ const ABOUT_MIGRATE: &str = "Brings an archive of version 1 to version 2";
 
 const FILE_OF_MIGRATE: &str = "the archive, a SQLite database";
 
-/// `migrate FILE`.
+/// `migrate [--wait SECONDS] FILE`.
 fn migrate<'a>(alloc: Global) -> Result<CommandLine<'a>, AllocError>
     ensures app { IfOk result (λ c. app_of c ≡ spec.migrate) }
     ensures local { IfOk result (λ c. (out-Command c).has_globals ≡ false) }
@@ -334,6 +352,7 @@ fn migrate<'a>(alloc: Global) -> Result<CommandLine<'a>, AllocError>
         help::SHORT_OF_MIGRATE,
         help::LONG_OF_MIGRATE,
     )
+    .arg(wait(alloc))?
     .arg(file(alloc, FILE_OF_MIGRATE))
 }
 

@@ -60,6 +60,8 @@ pub struct Request<'a> {
     pub order: Order<'a>,
     /// The files that make up the text, in order. Where there are none the text is read from standard input.
     pub texts: Vec<&'a str>,
+    /// For how many seconds it waits for the file that the order names, where another process has that.
+    pub wait: u32,
 }
 
 /// The check that the word after `check` names.
@@ -119,18 +121,18 @@ fn cycle_named(word: &str) -> Option<u8>
     }
 }
 
-/// The greatest round, since a gas day has no more.
-const MOST_ROUNDS: u32 = 1_000_000;
+/// The greatest number that a word may name, since a gas day has no more rounds.
+const MOST_NUMBER: u32 = 1_000_000;
 
-/// The round that a word names.
-fn round_named(word: &str) -> Option<u32>
-    ensures { result ≡ spec.round_named word.now }
+/// The number that a word names.
+fn number_named(word: &str) -> Option<u32>
+    ensures { result ≡ spec.number_named word.now }
 {
-    let Ok(round) = word.parse::<u32>() else {
+    let Ok(number) = word.parse::<u32>() else {
         return None;
     };
-    if 1 <= round && round <= MOST_ROUNDS {
-        Some(round)
+    if 1 <= number && number <= MOST_NUMBER {
+        Some(number)
     } else {
         None
     }
@@ -148,7 +150,7 @@ fn question_of<'a>(
     let file = file?;
     let cycle = cycle_named(cycle?)?;
     let round = match round {
-        Some(word) => Some(round_named(word)?),
+        Some(word) => Some(number_named(word)?),
         None => None,
     };
     Some(Order::Question { file, cycle, round })
@@ -227,6 +229,16 @@ fn texts_given<'a>(alloc: Global, given: &ArgMatches<'a>) -> Result<Vec<&'a str>
     }
 }
 
+/// The seconds of which the word after `--wait` tells.
+fn seconds_in(word: Option<&str>) -> Option<u32>
+    ensures { result ≡ spec.seconds_in (option_map (λ w. w.now) word.entry) }
+{
+    match word {
+        Some(word) => number_named(word),
+        None => Some(0),
+    }
+}
+
 /// The request of a subcommand's name and of what it was given.
 fn request_from<'a>(
     alloc: Global,
@@ -239,8 +251,11 @@ fn request_from<'a>(
     let Some(order) = order_from(name, given) else {
         return Ok(None);
     };
+    let Some(wait) = seconds_in(word_given(given, "wait")) else {
+        return Ok(None);
+    };
     let texts = texts_given(alloc, given)?;
-    Ok(Some(Request { order, texts }))
+    Ok(Some(Request { order, texts, wait }))
 }
 
 /// The request that the matches name. Where they name no subcommand it is `check allowed` over standard input.
@@ -253,18 +268,20 @@ pub(crate) fn request_in<'a>(
     let Some((name, given)) = matches.subcommand() else {
         let order = Order::Text(Command::CheckAllowed);
         let texts = Vec::new(alloc);
-        return Ok(Some(Request { order, texts }));
+        let wait = 0;
+        return Ok(Some(Request { order, texts, wait }));
     };
     request_from(alloc, name, given)
 }
 
-/// Why words that clap takes name no order: the word is no check, no cycle or no round, or a gas day is given both an archive and
-/// a book's file.
+/// Why words that clap takes name no order: the word is no check, no cycle, no round or no number of seconds, or a gas day is given
+/// both an archive and a book's file.
 #[derive(Clone, Copy)]
 pub(crate) enum NoOrder<'a> {
     Check(&'a str),
     Cycle(&'a str),
     Round(&'a str),
+    Wait(&'a str),
     BothFiles,
 }
 
@@ -276,9 +293,26 @@ pub(crate) fn no_order_in<'a>(matches: &ArgMatches<'a>) -> NoOrder<'a> {
     if let Some(word) = given.get_str("what") {
         return NoOrder::Check(word);
     }
-    match (given.get_str("cycle"), given.get_str("round")) {
-        (Some(word), _) if cycle_named(word).is_none() => NoOrder::Cycle(word),
-        (_, Some(word)) => NoOrder::Round(word),
-        _ => NoOrder::BothFiles,
+    if let (Some(_), Some(_)) = (given.get_str("archive"), given.get_str("book")) {
+        return NoOrder::BothFiles;
+    }
+    no_number_in(given)
+}
+
+/// Which word that was given is no cycle or no number, where one is.
+fn no_number_in<'a>(given: &ArgMatches<'a>) -> NoOrder<'a> {
+    if let Some(word) = given.get_str("cycle")
+        && cycle_named(word).is_none()
+    {
+        return NoOrder::Cycle(word);
+    }
+    if let Some(word) = given.get_str("round")
+        && number_named(word).is_none()
+    {
+        return NoOrder::Round(word);
+    }
+    match given.get_str("wait") {
+        Some(word) => NoOrder::Wait(word),
+        None => NoOrder::BothFiles,
     }
 }

@@ -15,6 +15,18 @@ returns-clause-begun g c =
     let back = c.begin_again.ensures.clean up in
     kept_some c.pieces_are_one.ensures (state g.S.Store c.args.conn.now) (state g.S.Store c.make.new.conn) (state g.S.Store c.count.new.conn) c.in_ok-count.count (c.in_ok-make.ensures.made (c.count.ensures.clean back)) (c.in_ok-count.ensures.counted back) c.if-keeps_none.false)
 
+pub returns-then-keeps_none-clause-unbegun : goal.returns-then-keeps_none-clause-unbegun
+returns-then-keeps_none-clause-unbegun g c =
+    c.begin_new.ensures.unbegun (state g.S.Store c.args.conn.now).now (λ up.
+    let back = c.begin_new.ensures.clean up in
+    (kept_none (state g.S.Store c.args.conn.now) (state g.S.Store c.make.new.conn) (state g.S.Store c.count.new.conn) c.in_ok-count.count (c.in_ok-make.ensures.made (c.count.ensures.clean back)) (c.in_ok-count.ensures.counted back) c.if-keeps_none.true).0)
+
+pub returns-clause-unbegun : goal.returns-clause-unbegun
+returns-clause-unbegun g c =
+    c.begin_again.ensures.unbegun (state g.S.Store c.args.conn.now).now (g.R.Read.remaining c.args.reader.now) (λ up.
+    let back = c.begin_again.ensures.clean up in
+    kept_some c.pieces_are_one.ensures (state g.S.Store c.args.conn.now) (state g.S.Store c.make.new.conn) (state g.S.Store c.count.new.conn) c.in_ok-count.count (c.in_ok-make.ensures.made (c.count.ensures.clean back)) (c.in_ok-count.ensures.counted back) c.if-keeps_none.false)
+
 pub returns-then-keeps_none-clause-lost : goal.returns-then-keeps_none-clause-lost
 returns-then-keeps_none-clause-lost g c up ps had =
     let back = c.begin_new.ensures.clean up in

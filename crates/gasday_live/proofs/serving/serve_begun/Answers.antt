@@ -1,4 +1,4 @@
-use Rattle.std.proofs.Common.{inl, inr, refl}
+use Rattle.std.proofs.Common.{inl, inr}
 use Rattle.sqlite.specs.Held.{state}
 use Rattle.gd_live.specs.Seen.{at_desk}
 use Rattle.gasday_live.specs.Runs.{found_at}
@@ -6,7 +6,12 @@ use Rattle.gasday_live.proofs.Running.{serves_so}
 use Rattle.gasday_live.proofs.serving.serve_begun.Goals as goal
 
 pub returns-then-not-tell-clause-run : goal.returns-then-not-tell-clause-run
-returns-then-not-tell-clause-run g c had head begun = inl (rw c.told_nothing.ensures (c.tell.ensures.untold c.if-not-tell.true), refl)
+returns-then-not-tell-clause-run g c had head begun =
+    inl (record {
+      written = rw c.told_nothing.ensures (rw c.opened.ensures.is at (c.tell.ensures.untold c.if-not-tell.true));
+      status_is = c.told_nothing.ensures;
+      keeps = λ up. let it = begun up in (it.0, it.1, it.2);
+    })
 
 pub returns-clause-run : goal.returns-clause-run
 returns-clause-run g c had head begun =

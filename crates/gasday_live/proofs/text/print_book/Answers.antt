@@ -12,9 +12,9 @@ returns-else-is_err-clause-printed g c clean =
 
 pub returns-in-Err-clause-printed : goal.returns-in-Err-clause-printed
 returns-in-Err-clause-printed g c clean =
-    inr (g.W.Write.contents c.write_text.new.writer, c.write_text.ensures.front clean, (c.in-Err.why, c.tell_failure.ensures))
+    inr (g.W.Write.contents c.write_text.new.writer, c.write_text.ensures.front clean, (c.in-Err.why, c.in-Err.ensures.failed, c.tell_failure.ensures))
 
 pub returns-then-is_err-clause-printed : goal.returns-then-is_err-clause-printed
 returns-then-is_err-clause-printed g c clean =
     let front = front_kept (state g.S.Store c.args.conn.now) _ _ _ (c.write_text.ensures.front clean) c.flush.ensures.bytes in
-    inr (g.W.Write.contents c.flush.new.self, front, (WriteFailed, (refl, c.told_nothing.ensures)))
+    inr (g.W.Write.contents c.flush.new.self, front, (WriteFailed, tt, (refl, c.told_nothing.ensures)))

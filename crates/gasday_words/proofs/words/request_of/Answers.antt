@@ -1,5 +1,5 @@
 use Rattle.std.proofs.Common.{map}
-use Rattle.gasday_words.proofs.Forms.{refuses_clashes, refuses_numbers, takes_days, takes_files, takes_forms, takes_helps, takes_rounds, takes_texts, takes_versions}
+use Rattle.gasday_words.proofs.Forms.{refuses_clashes, refuses_numbers, takes_days, takes_files, takes_forms, takes_helps, takes_rounds, takes_texts, takes_versions, takes_waits}
 use Rattle.gasday_words.proofs.words.request_of.Goals as goal
 
 pub returns-clause-forms : goal.returns-clause-forms
@@ -44,6 +44,14 @@ returns-clause-rounds g c = takes_rounds (map g.S.AsStr.text c.args.words.now) c
 
 pub returns-clause-numbers : goal.returns-clause-numbers
 returns-clause-numbers g c = refuses_numbers (map g.S.AsStr.text c.args.words.now) c.request_by_clap.result (record {
+  meaning = c.request_by_clap.ensures.meaning;
+  faultless = c.request_by_clap.ensures.faultless;
+  taken = c.request_by_clap.ensures.taken;
+  faults = c.request_by_clap.ensures.faults;
+})
+
+pub returns-clause-waits : goal.returns-clause-waits
+returns-clause-waits g c = takes_waits (map g.S.AsStr.text c.args.words.now) c.request_by_clap.result (record {
   meaning = c.request_by_clap.ensures.meaning;
   faultless = c.request_by_clap.ensures.faultless;
   taken = c.request_by_clap.ensures.taken;

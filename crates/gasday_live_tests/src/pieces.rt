@@ -1,13 +1,9 @@
-//! Pieces, and the calls on them. None of these has a clause, so that the proof of a test carries no database from one call to
+//! Pieces of a journal, and the calls on them. None of these has a clause, so that the proof of a test carries no database from one call to
 //! the next.
 
 use gd_journal_store::{Piece, StoreFault, is_journal, pieces};
 use sqlite::{Alter, Connection};
 use std::alloc::Global;
-
-/// The table of a journal, as people are told it.
-pub(crate) const TABLE: &str =
-    "CREATE TABLE piece (number INTEGER PRIMARY KEY, rows BLOB NOT NULL, told BLOB NOT NULL)";
 
 /// The rows of a piece, and what was told of them.
 pub(crate) type Bytes<'a> = (&'a [u8], &'a [u8]);
@@ -20,11 +16,6 @@ pub(crate) const SECOND: Bytes<'static> = (b"\xff\x00\n\r\"", b"");
 
 /// What was told of no rows.
 pub(crate) const THIRD: Bytes<'static> = (b"", b"told,,\n");
-
-/// Runs texts of SQL, one behind the other.
-pub(crate) fn runs<S: Alter>(conn: &mut Connection<S>, sql: &str) -> bool {
-    conn.execute_batch(sql).is_ok()
-}
 
 pub(crate) fn make<S: Alter>(conn: &mut Connection<S>) -> Result<(), StoreFault> {
     gd_journal_store::make(conn)

@@ -1,12 +1,13 @@
 //! Files of other tables, of which no call makes a journal.
 
-use crate::calls::{FIRST, append, count, is_one, make};
 use crate::changed::Changing;
 use crate::disks::{Work, are_same, behind, copied, new_disks};
+use crate::pieces::{FIRST, append, count, is_one, make};
 use gd_journal_store::{StoreFault, pieces};
 use sqlite::{Alter, Connection};
 use std::alloc::Global;
 use std::process::Abort;
+use std::thread::Threads;
 
 /// Tables that differ in one thing from a journal's, and a journal's with something beside it.
 const OTHERS: &[&str] = &[
@@ -39,10 +40,16 @@ const SAME: [&str; 2] = [
 ];
 
 /// Finds that the file is no journal, by each call.
+#[derive(Drop)]
 struct FindingOthers;
 
 impl Work for FindingOthers {
-    fn is_well<S: Alter>(&self, conn: &mut Connection<S>, alloc: Global) -> bool {
+    fn is_well<T: Threads + Sync, S: Alter>(
+        &mut self,
+        _rt: &T,
+        alloc: Global,
+        conn: &mut Connection<S>,
+    ) -> bool {
         !is_one(conn)
             && matches!(make(conn), Err(StoreFault::NotAJournal))
             && matches!(append(conn, 1, FIRST), Err(StoreFault::NotAJournal))
@@ -52,30 +59,31 @@ impl Work for FindingOthers {
 }
 
 /// Finds a journal, and appends to it.
+#[derive(Drop)]
 struct FindingOne;
 
 impl Work for FindingOne {
-    fn is_well<S: Alter>(&self, conn: &mut Connection<S>, _alloc: Global) -> bool {
+    fn is_well<T: Threads + Sync, S: Alter>(
+        &mut self,
+        _rt: &T,
+        _alloc: Global,
+        conn: &mut Connection<S>,
+    ) -> bool {
         is_one(conn) && make(conn).is_ok() && append(conn, 1, FIRST).is_ok()
     }
 }
 
 /// The file that these texts make is refused as a journal, and left as it is.
-fn is_refused(rt: &impl Abort, alloc: Global, tables: &str) {
-    let made = behind(rt, alloc, new_disks(alloc), &Changing(tables));
-    let found = behind(
-        rt,
-        alloc,
-        copied(rt, alloc, &made, u64::MAX),
-        &FindingOthers,
-    );
+fn is_refused(rt: &(impl Threads + Sync + Abort), alloc: Global, tables: &str) {
+    let made = behind(rt, alloc, new_disks(alloc, u64::MAX), &mut Changing(tables));
+    let found = behind(rt, alloc, copied(rt, alloc, &made), &mut FindingOthers);
     assert!(rt; are_same(&found, &made), "{tables}");
 }
 
 /// The file that this text makes is a journal.
-fn is_taken(rt: &impl Abort, alloc: Global, table: &str) {
-    let made = behind(rt, alloc, new_disks(alloc), &Changing(table));
-    behind(rt, alloc, made, &FindingOne);
+fn is_taken(rt: &(impl Threads + Sync + Abort), alloc: Global, table: &str) {
+    let made = behind(rt, alloc, new_disks(alloc, u64::MAX), &mut Changing(table));
+    behind(rt, alloc, made, &mut FindingOne);
 }
 
 #[test]

@@ -1,4 +1,4 @@
--- The words that name rounds.
+-- The words that name numbers.
 use Rattle.std.proofs.Common.{◌≡◌, ◌==◌, ◌∙◌, ◌<◌, ◌≤◌, ◌^◌, ℕ, Bool, true, false, [], ◌∷◌, List, Option, Some, None, ap, subst, sym, drop, cond, refl, arith}
 use Rattle.std.proofs.lemmas.Bool.{eqb-true}
 use Rattle.std.specs.Prelude.{if◌then◌else◌}
@@ -9,40 +9,40 @@ use Rattle.std.proofs.lemmas.Fmt.{decimal_is_IsNumeral}
 use Rattle.clap.specs.Values.{Accepts}
 use Rattle.clap.specs.declared.builder.value_parser.ValueParser.TheVariants as vp
 use Rattle.clap.proofs.ValueTestLemmas.{Accepts-accepts, accepts-Accepts}
-use Rattle.gasday_words.specs.Meaning.{most_rounds, round_named}
+use Rattle.gasday_words.specs.Meaning.{most_number, number_named}
 use Rattle.gasday_words.proofs.Plain.{IsPlain, begins_otherwise}
 
--- the word is a number that is a round
-abbrev IsRound : List ℕ → Type 0
-IsRound word = Accepts false (vp.Unsigned 1 most_rounds) word
+-- the word is a number that a word may name
+abbrev IsNumber : List ℕ → Type 0
+IsNumber word = Accepts false (vp.Unsigned 1 most_number) word
 
 -- what it is read as, where clap's test of such a number passes
 abbrev read : List ℕ → Bool → Option ℕ
 read word passes = if passes then Some (digits_value 10 (without_leading_plus word)) else None
 
-round_of : (word : List ℕ) → IsRound word → round_named word ≡ Some (digits_value 10 (without_leading_plus word))
-round_of word is = ap (read word) (Accepts-accepts false (vp.Unsigned 1 most_rounds) word is)
+number_of : (word : List ℕ) → IsNumber word → number_named word ≡ Some (digits_value 10 (without_leading_plus word))
+number_of word is = ap (read word) (Accepts-accepts false (vp.Unsigned 1 most_number) word is)
 
 failed : (b : Bool) → ¬ (b ≡ true) → b ≡ false
 failed false isnt = refl
 failed true isnt = absurd (isnt refl)
 
-no_round_of : (word : List ℕ) → ¬ (IsRound word) → None ≡ round_named word
-no_round_of word isnt = sym (ap (read word) (failed _ (λ passes. isnt (accepts-Accepts false (vp.Unsigned 1 most_rounds) word passes))))
+no_number_of : (word : List ℕ) → ¬ (IsNumber word) → None ≡ number_named word
+no_number_of word isnt = sym (ap (read word) (failed _ (λ passes. isnt (accepts-Accepts false (vp.Unsigned 1 most_number) word passes))))
 
--- the word is a number that `parse` reads, in a type which is wide enough for each round
+-- the word is a number that `parse` reads, in a type which is wide enough for each of these
 abbrev IsRead : List ℕ → Type 0
 IsRead word = IsNumeral 10 (without_leading_plus word) × (digits_value 10 (without_leading_plus word) < 2 ^ 32)
 
--- the number that is read from a word, where it is a round
-pub read_round : (word : List ℕ) (n : ℕ) → IsRead word × (n ≡ digits_value 10 (without_leading_plus word)) → 1 ≤ n → n ≤ most_rounds → Some n ≡ round_named word
-read_round word n is low high =
+-- the number that is read from a word, where a word may name it
+pub read_number : (word : List ℕ) (n : ℕ) → IsRead word × (n ≡ digits_value 10 (without_leading_plus word)) → 1 ≤ n → n ≤ most_number → Some n ≡ number_named word
+read_number word n is low high =
     let wide : digits_value 10 (without_leading_plus word) < 2 ^ 64 = omega arith in
-    ap (λ (k : ℕ). Some k) is.1 ∙ sym (round_of word (is.0.0, wide, rw (← is.1) low, rw (← is.1) high))
+    ap (λ (k : ℕ). Some k) is.1 ∙ sym (number_of word (is.0.0, wide, rw (← is.1) low, rw (← is.1) high))
 
 -- a word from which no number is read
-pub nothing_read : (word : List ℕ) → ¬ (IsRead word) → None ≡ round_named word
-nothing_read word isnt = no_round_of word (λ round. let high : digits_value 10 (without_leading_plus word) ≤ most_rounds = round.3 in isnt (round.0, omega arith))
+pub nothing_read : (word : List ℕ) → ¬ (IsRead word) → None ≡ number_named word
+nothing_read word isnt = no_number_of word (λ number. let high : digits_value 10 (without_leading_plus word) ≤ most_number = number.3 in isnt (number.0, omega arith))
 
 -- a digit differs from a byte that is none
 differs : (d x : ℕ) → digit_value d < 10 → ¬ (digit_value x < 10) → (d == x) ≡ false
@@ -62,20 +62,20 @@ without_plus : (ds : List ℕ) → IsNumeral 10 ds → without_leading_plus ds �
 without_plus [] is = let bad : 0 < 0 = is.0 in absurd (omega arith)
 without_plus (d ∷ ds) is = ap (λ (b : Bool). drop (cond b 1 0) (d ∷ ds)) (differs d 43 is.1.0 no_plus)
 
-module _ (n : ℕ) (low : 1 ≤ n) (high : n ≤ most_rounds) where
+module _ (n : ℕ) (low : 1 ≤ n) (high : n ≤ most_number) where
   small : n < 2 ^ 64
   small = omega arith
 
   numeral : IsNumeral 10 (decimal n) × (digits_value 10 (decimal n) ≡ n)
   numeral = decimal_is_IsNumeral n small
 
-  -- a round in decimal is a plain word, which names it
+  -- a number in decimal is a plain word, which names it
   pub decimal_is_plain : IsPlain (decimal n)
   decimal_is_plain = plain_numeral (decimal n) numeral.0
 
-  pub decimal_names : round_named (decimal n) ≡ Some n
+  pub decimal_names : number_named (decimal n) ≡ Some n
   decimal_names =
       let same = without_plus (decimal n) numeral.0 in
       let is : digits_value 10 (without_leading_plus (decimal n)) ≡ n = ap (digits_value 10) same ∙ numeral.1 in
-      let round : IsRound (decimal n) = (subst (IsNumeral 10) (sym same) numeral.0, rw is small, rw is low, rw is high) in
-      round_of (decimal n) round ∙ ap (λ (k : ℕ). Some k) is
+      let is_number : IsNumber (decimal n) = (subst (IsNumeral 10) (sym same) numeral.0, rw is small, rw is low, rw is high) in
+      number_of (decimal n) is_number ∙ ap (λ (k : ℕ). Some k) is

@@ -1,10 +1,11 @@
-//! A worked journal.
+//! A worked journal: pieces of any bytes, read whole and by parts.
 
-use crate::calls::{Bytes, FIRST, SECOND, THIRD, has, is_one, make, makes_three};
 use crate::disks::{Work, behind, new_disks};
+use crate::pieces::{Bytes, FIRST, SECOND, THIRD, has, is_one, make, makes_three};
 use gd_journal_store::{kept_is_read, pieces_are_one};
 use sqlite::{Alter, Connection};
 use std::alloc::Global;
+use std::thread::Threads;
 
 /// What is read of the three pieces behind so many.
 const PARTS: [(u32, &[Bytes<'static>]); 4] = [
@@ -30,19 +31,31 @@ fn appends_a_fourth<S: Alter>(conn: &mut Connection<S>, alloc: Global) -> bool {
 }
 
 /// Makes a journal of the three pieces in an empty file, and reads it.
+#[derive(Drop)]
 pub(crate) struct Keeping;
 
 impl Work for Keeping {
-    fn is_well<S: Alter>(&self, conn: &mut Connection<S>, alloc: Global) -> bool {
+    fn is_well<T: Threads + Sync, S: Alter>(
+        &mut self,
+        _rt: &T,
+        alloc: Global,
+        conn: &mut Connection<S>,
+    ) -> bool {
         !is_one(conn) && makes_three(conn) && is_one(conn) && reads_parts(conn, alloc)
     }
 }
 
 /// Makes it once more, which changes nothing, reads it, and goes on.
+#[derive(Drop)]
 struct GoingOn;
 
 impl Work for GoingOn {
-    fn is_well<S: Alter>(&self, conn: &mut Connection<S>, alloc: Global) -> bool {
+    fn is_well<T: Threads + Sync, S: Alter>(
+        &mut self,
+        _rt: &T,
+        alloc: Global,
+        conn: &mut Connection<S>,
+    ) -> bool {
         make(conn).is_ok()
             && reads_parts(conn, alloc)
             && appends_a_fourth(conn, alloc)
@@ -54,6 +67,7 @@ impl Work for GoingOn {
 #[test]
 fn kept_is_read_by_parts(rt: HostRuntime) {
     pieces_are_one();
-    let disks = behind(&rt, rt.alloc(), new_disks(rt.alloc()), &Keeping);
-    behind(&rt, rt.alloc(), disks, &GoingOn);
+    let disks = new_disks(rt.alloc(), u64::MAX);
+    let disks = behind(&rt, rt.alloc(), disks, &mut Keeping);
+    behind(&rt, rt.alloc(), disks, &mut GoingOn);
 }
