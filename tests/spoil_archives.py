@@ -191,7 +191,9 @@ def not_writable(archives, whole):
     path.write_bytes(whole)
     path.chmod(0o444)
     folder.chmod(0o555)
-    for words, text in ((("audit",), b""), (("migrate",), b""), (("day", "--archive"), DAY)):
+    sound = archives.run("audit", path, prefix=prefix)
+    archives.note(f"audit of a read-only file: {sound}", sound == (b"audited,2,,,,,,\n", 0) and os.listdir(folder) == [path.name])
+    for words, text in ((("migrate",), b""), (("day", "--archive"), DAY)):
         got = archives.run(*words, path, text=text, prefix=prefix)
         archives.note(f"{' '.join(words)} of a read-only file: {got}", got == STORE and path.read_bytes() == whole)
     got = archives.run("day", "--archive", folder / "new.db", text=DAY, prefix=prefix)
