@@ -10,7 +10,7 @@ use gasday_words::Order;
 use sqlite::{Connection, Error, ErrorCode, FileStore, Files, Options, Unknown};
 use sqlite_disk::{Disk, Memory};
 use sqlite_std_file::OpenError;
-use std::alloc::Global;
+use std::alloc::{AllocError, Global};
 use std::fs::{File, canonicalize, metadata};
 use std::hash::{BuildHasher, RandomState};
 use std::io;
@@ -101,6 +101,32 @@ fn copy_of(rt: &HostRuntime, name: &str) -> io::Result<Files<Memory>>
     Ok(files)
 }
 
+/// Opens a database in memory.
+fn opened(
+    alloc: Global,
+    files: Files<Memory>,
+    seed: u64,
+) -> Result<Connection<FileStore<Memory>>, Error>
+    requires log { IsTrue (memory_is_usable files.log) }
+    requires db { IsTrue (memory_is_usable files.db) }
+{
+    match Connection::open_files(alloc, files, Options::new(seed)) {
+        Ok(conn) => Ok(conn),
+        Err((error, left)) => {
+            drop(left);
+            Err(error)
+        }
+    }
+}
+
+/// A number drawn at random, or 0 where none can be drawn.
+fn seed(rt: &HostRuntime) -> u64 {
+    match RandomState::new(rt) {
+        Ok(state) => state.hash_one(&0u8),
+        Err(_) => 0,
+    }
+}
+
 /// The copy of a database of this name.
 #[derive(Drop)]
 pub(crate) struct CopiedFile<'a> {
@@ -109,9 +135,9 @@ pub(crate) struct CopiedFile<'a> {
 }
 
 impl<'a> CopiedFile<'a> {
-    /// Tells people why there is no copy.
-    fn tell(&self, error: &io::Error) {
-        if let Ok(why) = error.to_string(self.rt.alloc()) {
+    /// Tells people why there is no copy, where there was memory for that.
+    fn tell(&self, why: Result<String, AllocError>) {
+        if let Ok(why) = why {
             tell_unopened(self.rt, self.name, why.as_str());
         }
     }
@@ -124,24 +150,18 @@ impl<'a> Opener<FileStore<Memory>> for CopiedFile<'a> {
     ghost opens = { λ file opened. ⊤ };
 
     fn open(self) -> Result<Connection<FileStore<Memory>>, Error> {
-        let files = match copy_of(self.rt, self.name) {
-            Ok(files) => files,
-            Err(error) => {
-                self.tell(&error);
-                return Err(Error::SqliteFailure(ErrorCode::CannotOpen));
-            }
-        };
-        let seed = match RandomState::new(self.rt) {
-            Ok(state) => state.hash_one(&0u8),
-            Err(_) => 0,
-        };
-        match Connection::open_files(self.rt.alloc(), files, Options::new(seed)) {
-            Ok(conn) => Ok(conn),
-            Err((error, _)) => {
-                if let Ok(why) = error.to_string(self.rt.alloc()) {
-                    tell_unopened(self.rt, self.name, why.as_str());
+        let alloc = self.rt.alloc();
+        match copy_of(self.rt, self.name) {
+            Ok(files) => {
+                let conn = opened(alloc, files, seed(self.rt));
+                if let Err(error) = &conn {
+                    self.tell(error.to_string(alloc));
                 }
-                Err(error)
+                conn
+            }
+            Err(error) => {
+                self.tell(error.to_string(alloc));
+                Err(Error::SqliteFailure(ErrorCode::CannotOpen))
             }
         }
     }
