@@ -183,16 +183,24 @@ def other_tables(archives, whole, rows):
 
 
 def not_writable(archives, whole):
-    """A file or a folder that can't be written, for who isn't root."""
+    """A file or a folder that can't be written, for who isn't root: what is only read is told as of one that can be."""
     prefix = ("setpriv", "--reuid=65534", "--regid=65534", "--clear-groups") if os.geteuid() == 0 else ()
     folder = archives.folder / "closed"
     folder.mkdir()
     path = folder / "kept.db"
     path.write_bytes(whole)
     path.chmod(0o444)
+    book, kept_book = archives.folder / "0308.book", folder / "0308.book"
+    archives.run("day", "--book", book, text=DAY)
+    kept_book.write_bytes(book.read_bytes())
+    kept_book.chmod(0o444)
     folder.chmod(0o555)
     sound = archives.run("audit", path, prefix=prefix)
-    archives.note(f"audit of a read-only file: {sound}", sound == (b"audited,2,,,,,,\n", 0) and os.listdir(folder) == [path.name])
+    archives.note(f"audit of a read-only file: {sound}", sound == (b"audited,2,,,,,,\n", 0))
+    for words, cycle in (("audit", ()), ("text", ()), ("question", ("2",)), ("carry", ())):
+        want, got = archives.run(words, book, *cycle), archives.run(words, kept_book, *cycle, prefix=prefix)
+        archives.note(f"{words} of a read-only book: {got}", got == want and got[1] == 0)
+    archives.note("nothing is written beside them", sorted(os.listdir(folder)) == [kept_book.name, path.name])
     for words, text in ((("migrate",), b""), (("day", "--archive"), DAY)):
         got = archives.run(*words, path, text=text, prefix=prefix)
         archives.note(f"{' '.join(words)} of a read-only file: {got}", got == STORE and path.read_bytes() == whole)
