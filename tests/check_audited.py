@@ -1,19 +1,22 @@
 #!/usr/bin/env python3
-"""check_audited.py [--list [PATH | COMMAND..]]
+"""check_audited.py [--list | --read [PATH | COMMAND..]]
 
 Finds the files of definitions that the statements of eight paths reach (below: PATHS), and compares them with `docs/AUDIT.md`:
 each file that is reached stands there exactly once, with the paths that reach it, in the section of the first of them; each
 that stands there is reached; the counts of lines are right, and so are the types of the program and the modules of the kit
 that the definitions name. With `--list` it prints the files that all paths reach, with their lines; with the name of a path
 behind it (`Best`, `Headline`, `Checks`, `Days`, `Archives`, `Offices`, `Books`, `Rounds`) those of that path, and with commands (such as
-`CheckBest CheckCut`) those that are reached by these commands of `gasday_part` alone.
+`CheckBest CheckCut`) those that are reached by these commands of `gasday_part` alone. With `--read` and the same words it prints
+what has to be read of these files, in the document's order: each definition that is reached, with the comments before it, and
+neither what the file imports nor what else it defines.
 
 What counts as reached:
 
 - The roots are the words of the `requires` and `ensures` clauses, not the other `ghost use` lines of the file.
 - From there it goes definition by definition, not file by file: a definition reaches the names that stand in it, and the
   header of the `module` around it. A name that a pattern or a λ binds anew still counts as the imported one, so that
-  the list may be too long. Of a file that is reached by one definition all lines are counted.
+  the list may be too long. Of a file that is reached by one definition all lines are counted; beside that sum stands how many
+  lines `--read` prints of it, without empty ones.
 - A type of the program (`specs.declared`, or a type of the signature) reaches what its fields are seen as: types in turn,
   or, where one has a `Model`, the definitions of its `Value` and its `view`. Of a trait of the program it is its ghosts.
 - With commands, the clauses for other commands and other forms of a text are left out, and nothing else is.
@@ -127,6 +130,22 @@ class SpecFile:
         for name, owner in self.owner.items():
             if all(part in words for part in name.split("◌") if part):
                 yield owner
+
+
+    def paragraphs(self):
+        """What stands between empty lines, but for what is imported: its lines, and the definitions that begin in it."""
+        for text in re.split(r"\n\s*\n", self.path.read_text().rstrip("\n")):
+            lines = [line for line in text.split("\n") if not USE.match(line)]
+            yield lines, {match[2] for line in lines if (match := SIGNATURE.match(line))}
+
+    def to_be_read(self, names):
+        """The paragraphs that have to be read of a file of which these definitions are reached: with what it says of itself."""
+        goes_on = True
+        for lines, begun in self.paragraphs():
+            if begun:
+                goes_on = bool(begun & names)
+            if lines and (goes_on or any(map(MODULE.match, lines))):
+                yield lines
 
 
 @cache
@@ -274,18 +293,28 @@ class Document:
     SECTION = re.compile(r"^## \((\w)\) ")
     FILE = re.compile(r"^- `(\w+)/(\w+\.antt)` \((\d+), ([a-h]+)\): \S")
     NAMES = re.compile(r"`(\w+)`: ((?:`[\w.]+`(?:, )?)+)")
-    TOTAL = re.compile(r"\*\*(?:Stop here \((\w)\)|(All)): (\d+) files, ([\d,]+) lines")
+    SUM = r"(\d+) files, ([\d,]+) lines, ([\d,]+) to be read\b"
+    TOTAL = re.compile(rf"\*\*(?:Stop here \((\w)\)|(All)): {SUM}")
+    # (of the table at the document's head)
+    ROW = re.compile(rf"^\| \((\w)\) \|.*\| {SUM} \|$")
 
     def __init__(self, text):
-        self.files, self.totals, section = [], {}, ""
+        self.files, self.totals, self.heads, section = [], {}, {}, ""
         for line in text.split("\n"):
             if match := self.SECTION.match(line):
                 section = match[1]
             if match := self.FILE.match(line):
                 self.files.append((f"{match[1]}/specs/{match[2]}", int(match[3]), match[4], section))
-            for letter, whole, files, lines in self.TOTAL.findall(line):
-                self.totals[letter or whole] = (int(files), int(lines.replace(",", "")))
+            for letter, whole, *counts in self.TOTAL.findall(line):
+                self.totals[letter or whole] = self.numbers(counts)
+            if match := self.ROW.match(line):
+                self.heads[match[1]] = self.numbers(match.groups()[1:])
         self.types, self.kit = self.names(text, "Types of the program"), self.names(text, "Modules of the kit")
+
+    @staticmethod
+    def numbers(counts):
+        """Counts whose digits are grouped."""
+        return tuple(int(count.replace(",", "")) for count in counts)
 
     def names(self, text, section):
         """The names by crate in a section, sorted."""
@@ -311,6 +340,22 @@ def lines_of(reached):
     return {str(path.relative_to(CRATES)): path.read_text().count("\n") for path in sorted(reached.files)}
 
 
+def read_lines(reached):
+    """How many lines have to be read of the files that are reached."""
+    return sum(len(lines) for path, names in reached.files.items() for lines in spec_file(path).to_be_read(names))
+
+
+def print_to_be_read(document, reached):
+    """Prints what has to be read, in the document's order."""
+    names = {str(path.relative_to(CRATES)): path for path in sorted(reached.files)}
+    order = [row[0] for row in document.files if row[0] in names]
+    for name in [*order, *sorted(set(names) - set(order))]:
+        path = names[name]
+        print(f"---- crates/{name}\n")
+        for lines in spec_file(path).to_be_read(reached.files[path]):
+            print("\n".join(lines) + "\n")
+
+
 def file_faults(document, all_lines, by_path):
     """What differs in the files, file by file."""
     for name, lines in all_lines.items():
@@ -321,11 +366,14 @@ def file_faults(document, all_lines, by_path):
         yield f"{name} stands there and is not reached"
 
 
-def sum_faults(document, all_lines, by_path):
+def sum_faults(document, all_reached, reached_by_path):
     """What differs in the totals."""
-    for name, lines in [*by_path.items(), ("All", all_lines)]:
-        want = (len(lines), sum(lines.values()))
+    for name, reached in [*reached_by_path.items(), ("All", all_reached)]:
+        lines = lines_of(reached)
+        want = (len(lines), sum(lines.values()), read_lines(reached))
         yield f"{name}: {want}, but the document has {document.totals.get(name)}" if document.totals.get(name) != want else None
+        if name in PATHS:
+            yield f"{name}: {want}, but the document's table has {document.heads.get(name)}" if document.heads.get(name) != want else None
 
 
 def name_faults(kind, stand, reached):
@@ -363,7 +411,11 @@ def listed(words):
 
 
 def main():
-    reached = listed(sys.argv[2:]) if sys.argv[1:2] == ["--list"] else None
+    reached = listed(sys.argv[2:]) if sys.argv[1:2] in (["--list"], ["--read"]) else None
+    document = Document(DOCUMENT.read_text())
+    if reached and sys.argv[1] == "--read":
+        print_to_be_read(document, reached)
+        return 0
     if reached:
         lines = lines_of(reached)
         print("".join(f"{count:5} crates/{name}\n" for name, count in lines.items()), end="")
@@ -372,12 +424,13 @@ def main():
     if len(sys.argv) != 1:
         print(__doc__.strip())
         return 2
-    reached, document = whole(), Document(DOCUMENT.read_text())
+    reached = whole()
     all_lines = lines_of(reached)
-    by_path = {letter: lines_of(reach(roots, commands)) for letter, (_, roots, commands) in PATHS.items()}
+    reached_by_path = {letter: reach(roots, commands) for letter, (_, roots, commands) in PATHS.items()}
+    by_path = {letter: lines_of(its) for letter, its in reached_by_path.items()}
     results = [f"{name}: no such definition" for name in sorted(reached.missing)]
     results += file_faults(document, all_lines, by_path)
-    results += sum_faults(document, all_lines, by_path)
+    results += sum_faults(document, reached, reached_by_path)
     results += name_faults("types", document.types, reached.types)
     results += name_faults("modules", document.kit, reached.kit)
     definitions = DEFINITIONS.read_text()
