@@ -27,7 +27,10 @@ _gasday() {
     case ${COMP_WORDS[1]}:$COMP_CWORD in
         help:2) _gasday_words 'check solve calendar day office audit text question carry migrate' ;;
         help:*) ;;
-        check:2) _gasday_words 'allowed best cut --help' ;;
+        check:2)
+            _gasday_words 'allowed best cut --help'
+            _gasday_files
+            ;;
         day:*)
             [ "$before" = --wait ] && return
             [[ $before = --archive || $before = --book ]] || _gasday_words '--archive --book --wait --help'

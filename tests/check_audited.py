@@ -38,16 +38,18 @@ CRATES = HOME / "crates"
 DOCUMENT = HOME / "docs" / "AUDIT.md"
 DEFINITIONS = HOME / "docs" / "DEFINITIONS.md"
 ANSWER, WRITE = ("gasday_part", "answer_of"), ("gasday_part", "write_answer")
-ANSWER_ORDER, ANSWER_OFFICE = ("gasday_archive", "answer_to"), ("gasday_office", "answer_office")
+CHECK_ANSWER = ("gasday_part", "check_answer")
+ANSWER_ORDER, AUDIT_ARCHIVE = ("gasday_archive", "answer_to"), ("gasday_archive", "audit_archive")
+ANSWER_OFFICE = ("gasday_office", "answer_office")
 LAWS_OF_BOOKS = ("book_is_day", "kept_book_is_day", "served_book_is_day")
 BOOKS = tuple(("gasday_live", name) for name in ("serve_book", "audit_book", "print_book", *LAWS_OF_BOOKS))
 # Each path by its letter: its name, its statements, and the commands that it is for.
 PATHS = {
     "a": ("Best", (("gd_rules", "prices_show_best"), ("gd_rules", "cut_forbids")), ()),
     "b": ("Headline", (("gd_machine", "every_day_holds"),), ()),
-    "c": ("Checks", (ANSWER, WRITE), ("CheckBest", "CheckCut")),
+    "c": ("Checks", (ANSWER, WRITE, CHECK_ANSWER), ("CheckBest", "CheckCut")),
     "d": ("Days", (ANSWER, WRITE), ("Day",)),
-    "e": ("Archives", (ANSWER_ORDER, WRITE), ()),
+    "e": ("Archives", (ANSWER_ORDER, AUDIT_ARCHIVE, WRITE), ()),
     "f": ("Offices", (ANSWER_OFFICE, WRITE), ()),
     "g": ("Books", BOOKS, ()),
     "h": ("Rounds", (("gasday_part", "ask_text"), ("gasday_live", "ask_book")), ()),

@@ -53,6 +53,9 @@ line,R1,D1,4,0,50,,
 
 SCHEDULE = "sched,1,60,,,,,\nsched,2,30,,,,,\n"
 
+# What solve answers before the schedule.
+HEAD = "best,,,,,,,\ntotal,1,0,,,,,\ntotal,2,0,,,,,\ntotal,3,0,,,,,\ntotal,4,90,,,,,\n"
+
 DAY = """\
 segment,S1,A,B,100,,,
 point,R1,receipt,A,OPR,1000,,
@@ -131,6 +134,7 @@ TEXTS = {
     "check allowed": PIPELINE + SCHEDULE,
     "check best": PIPELINE + SCHEDULE + "price,S1,4,1,-6,,,\n",
     "check cut": PIPELINE + "inside,place,A,,,,,\n",
+    "check /dev/null -": PIPELINE + HEAD + SCHEDULE + "price,S1,4,1,-6,,,\n",
     "solve": PIPELINE,
     "calendar": 'day,2026-03-08,"CST6CDT,M3.2.0,M11.1.0",,,,,\n',
     "day": DAY,

@@ -32,7 +32,7 @@ class Completing(unittest.TestCase):
         self.assertEqual(self.offers("help", "solve", ""), [])
 
     def test_checks(self) -> None:
-        self.assertEqual(self.offers("check", ""), ["--help", "allowed", "best", "cut"])
+        self.assertEqual(self.offers("check", ""), sorted(["--help", "allowed", "best", "cut", *FILES]))
         self.assertEqual(self.offers("check", "b"), ["best"])
         self.assertEqual(self.offers("check", "best", ""), ["--help", *FILES])
 

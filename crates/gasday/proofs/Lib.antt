@@ -1,2 +1,3 @@
+mod Auditing
 mod Files
 pub mod Writing

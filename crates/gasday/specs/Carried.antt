@@ -1,29 +1,41 @@
 -- What an order is answered, the office among them, and what is written of it.
-use Rattle.std.specs.Prelude.{◌≡◌, ⊤, ℕ, List, Option, None, Result, Err}
+use Rattle.std.specs.Prelude.{◌≡◌, ◌⊎◌, ⊤, ℕ, List, Option, None, Result, Err}
 use Rattle.sqlite_trees.specs.declared.store.Store.{Ghosts}
 use Rattle.sqlite.specs.Held.{Held}
 use Rattle.sqlite.specs.declared.error.Error.{Error}
-use Rattle.gasday_words.specs.Ordered.{Ordered, Text, ArchivedDay, LiveDay, Migrate}
+use Rattle.gasday_words.specs.Ordered.{Ordered, Text, ArchivedDay, Audit, LiveDay, Migrate}
 use Rattle.gasday_words.specs.declared.order.Command.TheVariants as command
-use Rattle.gasday_part.specs.Answers.{Told}
+use Rattle.gasday_part.specs.Answers.{Told, no_memory, one}
 use Rattle.gasday_part.specs.Output.{WritesTold}
-use Rattle.gasday_archive.specs.Orders.{Answers}
-use Rattle.gasday_archive.specs.Runs.{OrNoMemory}
+use Rattle.gasday_part.specs.Solutions.{ChecksAnswer}
+use Rattle.gasday_archive.specs.Orders.{Answers, IsAnswered}
+use Rattle.gasday_archive.specs.Runs.{OrNoMemory, TellsOpened}
+use Rattle.gasday.specs.Audited.{TellsAudit}
 use Rattle.gasday_office.specs.Offices.{AnswersOfficeBytes}
 
 -- an office's answer to the bytes of a text; no archive comes back
 abbrev pub AnswersSlots : {S : Type 0} → List ℕ → Option (Held S) → Told → Type 0
 AnswersSlots text left a = (left ≡ None) × AnswersOfficeBytes text a
 
--- What an order is answered: of an office what its text is answered, or that memory ran out before; of each other order what that
--- is.
+-- an order that is carried out over the bytes of one text or of none
+abbrev pub IsCarriedOut : Ordered → Type 0
+IsCarriedOut (Audit file) = ⊤
+IsCarriedOut order = IsAnswered order
+
+-- What an order is answered: of an office what its text is answered, or that memory ran out before; of an audit, which reads none,
+-- what is told of the file that the opener gives; of each other order what that is.
 abbrev pub AnswersOrder : {S : Type 0} → Ghosts S → (Result (Held S) Error → Type 0) → Ordered → List ℕ → Option (Held S) → Told → Type 0
 AnswersOrder g gives (Text command.Office) text left a = OrNoMemory (AnswersSlots text) left a
+AnswersOrder g gives (Audit file) text left a = TellsOpened g gives (TellsAudit g) left a
 AnswersOrder g gives order text left a = Answers g gives order text left a
 
 -- What is written of an order over these bytes, and the exit status: what it is answered, and nothing else.
 abbrev pub CarriesOut : {S : Type 0} → Ghosts S → (Result (Held S) Error → Type 0) → Ordered → List ℕ → Option (Held S) → Option (List ℕ) → Option (List ℕ) → ℕ → Type 0
 CarriesOut g gives order text left old new status = WritesTold (AnswersOrder g gives order text left) old new status
+
+-- what is told of an answer to a question, or that memory ran out
+abbrev pub TellsAnswer : List ℕ → List ℕ → Told → Type 0
+TellsAnswer question answer a = ChecksAnswer question answer a ⊎ (a ≡ one no_memory 2)
 
 -- The exit status of an order whose file is closed so: 2 where what it kept or migrated isn't copied from the log into the file.
 abbrev pub status_closed : Ordered → Result ⊤ Error → ℕ → ℕ

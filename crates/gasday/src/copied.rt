@@ -4,13 +4,13 @@ ghost use Rattle.std.specs.Prelude.{IfOk, IsTrue};
 ghost use Rattle.sqlite_disk.specs.Memory.{memory_is_usable};
 
 use crate::file::is_database;
-use crate::told::tell_unopened;
+use crate::told::tell_cause;
 use gasday_archive::Opener;
 use gasday_words::Order;
 use sqlite::{Connection, Error, ErrorCode, FileStore, Files, Options, Unknown};
 use sqlite_disk::{Disk, Memory};
 use sqlite_std_file::OpenError;
-use std::alloc::{AllocError, Global};
+use std::alloc::Global;
 use std::fs::{File, canonicalize, metadata};
 use std::hash::{BuildHasher, RandomState};
 use std::io;
@@ -134,15 +134,6 @@ pub(crate) struct CopiedFile<'a> {
     pub(crate) name: &'a str,
 }
 
-impl<'a> CopiedFile<'a> {
-    /// Tells people why there is no copy, where there was memory for that.
-    fn tell(&self, why: Result<String, AllocError>) {
-        if let Ok(why) = why {
-            tell_unopened(self.rt, self.name, why.as_str());
-        }
-    }
-}
-
 impl<'a> Opener<FileStore<Memory>> for CopiedFile<'a> {
     ghost use Rattle.std.specs.Prelude.{⊤};
 
@@ -155,12 +146,12 @@ impl<'a> Opener<FileStore<Memory>> for CopiedFile<'a> {
             Ok(files) => {
                 let conn = opened(alloc, files, seed(self.rt));
                 if let Err(error) = &conn {
-                    self.tell(error.to_string(alloc));
+                    tell_cause(self.rt, self.name, error.to_string(alloc));
                 }
                 conn
             }
             Err(error) => {
-                self.tell(error.to_string(alloc));
+                tell_cause(self.rt, self.name, error.to_string(alloc));
                 Err(Error::SqliteFailure(ErrorCode::CannotOpen))
             }
         }

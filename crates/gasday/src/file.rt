@@ -1,6 +1,6 @@
 //! The file that an order names: an archive's, or a book's.
 
-use crate::told::tell_unopened;
+use crate::told::{tell_cause, tell_unopened};
 use gasday_archive::Opener;
 use gasday_words::Order;
 use sqlite::{Connection, Error, ErrorCode, File as StoreFile, FileStore, Unknown};
@@ -27,20 +27,13 @@ const TRIES: u64 = 10;
 const PAUSE: u64 = 100;
 
 impl<'a> NamedFile<'a> {
-    /// Tells people why a file can't be opened, where there was memory for that.
-    fn tell(&self, name: &str, why: Result<String, AllocError>) {
-        if let Ok(why) = why {
-            tell_unopened(self.rt, name, why.as_str());
-        }
-    }
-
     /// The name of a file that is there and has something, or people are told what is wrong with it.
     fn present(&self, file: &'a str) -> Option<&'a str> {
         match metadata(self.rt, file) {
             Ok(found) if found.is_dir() => tell_unopened(self.rt, file, "it is a folder"),
             Ok(found) if found.len() == 0 => tell_unopened(self.rt, file, "it is empty"),
             Ok(_) => return Some(file),
-            Err(error) => self.tell(file, error.to_string(self.rt.alloc())),
+            Err(error) => tell_cause(self.rt, file, error.to_string(self.rt.alloc())),
         }
         None
     }
@@ -48,7 +41,8 @@ impl<'a> NamedFile<'a> {
     /// The name of the file. A gas day makes it where there is none; who audits, migrates, prints or asks one names one that is there.
     fn name(&self) -> Option<&'a str> {
         match self.order {
-            Order::Text(_) | Order::ArchivedDay("") | Order::LiveDay("") => None,
+            Order::Text(_) | Order::CheckAnswer | Order::ArchivedDay("") | Order::LiveDay("") =>
+                None,
             Order::ArchivedDay(file) | Order::LiveDay(file) => Some(file),
             Order::Audit(file)
             | Order::Migrate(file)
@@ -80,7 +74,7 @@ impl<'a> NamedFile<'a> {
                 "another process has it; it is free again once that has ended",
             ),
             (Ok(found), _) if found.is_dir() => tell_unopened(self.rt, name, "it is a folder"),
-            _ => self.tell(name, cause(self.rt, name, error)),
+            _ => tell_cause(self.rt, name, cause(self.rt, name, error)),
         }
     }
 }

@@ -7,17 +7,20 @@ ghost use Rattle.gasday_words.specs.Ordered.{seen};
 ghost use Rattle.gasday_part.specs.Answers.{fault_answer, no_memory, one};
 ghost use Rattle.gasday_part.specs.Output.{WritesTold};
 ghost use Rattle.gasday_archive.specs.Runs.{OrNoMemory, Tells};
-ghost use Rattle.gasday.specs.Carried.{AnswersOrder, AnswersSlots, CarriesOut, status_closed};
-ghost use Rattle.gasday_archive.specs.Orders.{IsAnswered};
+ghost use Rattle.gasday.specs.Carried.{AnswersOrder, AnswersSlots, CarriesOut, IsCarriedOut, status_closed};
 
+mod audit;
 mod book;
+mod checking;
 mod copied;
 mod file;
 mod input;
 mod noted;
 mod told;
 
+use crate::audit::tell_audit;
 use crate::book::{ask_over, inquiry_of, print_over, serve_over};
+use crate::checking::{check_over, first_and_rest};
 use crate::copied::{CopiedFile, unwritable};
 use crate::file::{NamedFile, close, is_database};
 use crate::input::{STANDARD_INPUT, Text, Unread};
@@ -80,12 +83,13 @@ fn answered<T: Threads + Wait + Clock + Sync, S: Alter + Drop, O: Opener<S>>(
     text: &[u8],
     opener: O,
 ) -> Outcome<S>
-    requires { IsAnswered (seen order) }
+    requires { IsCarriedOut (seen order) }
     ensures { Tells (AnswersOrder S.Store (O.Opener.opens opener) (seen order.entry) text.now
         result.archive) result.answer }
 {
     match order {
         Order::Text(Command::Office) => answer_slots(threads, alloc, text),
+        Order::Audit(_) => tell_audit(threads, alloc, opener.open()),
         order => answer_to(threads, alloc, order, text, opener),
     }
 }
@@ -99,7 +103,7 @@ fn run_over<T: Threads + Wait + Clock + Sync, S: Alter + Drop, W: Write, O: Open
     writer: &mut W,
     opener: O,
 ) -> Ran<S>
-    requires { IsAnswered (seen order) }
+    requires { IsCarriedOut (seen order) }
     ensures { CarriesOut S.Store (O.Opener.opens opener) (seen order.entry) text.now result.file
         (W.contents writer.old) (W.contents writer.new) result.status }
 {
@@ -153,7 +157,7 @@ fn answer<'a, T: Threads + Wait + Clock + Sync, S: Alter + Drop, O: Opener<S>>(
     text: Text<'a>,
     file: O,
 ) -> Ended<'a, S>
-    requires { IsAnswered (seen order) }
+    requires { IsCarriedOut (seen order) }
 {
     let mut writer = Noted::new(io::writer(rt));
     let bytes = text.bytes.as_slice();
@@ -162,6 +166,34 @@ fn answer<'a, T: Threads + Wait + Clock + Sync, S: Alter + Drop, O: Opener<S>>(
         ran,
         text,
         unwritten: writer.take_error(),
+    }
+}
+
+/// Writes what is told of an answer: of a text whose first file is the question's, and whose second one is the answer's.
+fn check_files<'a, T: Threads + Sync, S: Alter + Drop>(
+    threads: &T,
+    rt: &HostRuntime,
+    text: Text<'a>,
+) -> Ended<'a, S> {
+    let mut writer = Noted::new(io::writer(rt));
+    let (question, answer) = first_and_rest(&text);
+    let ran = check_over(threads, rt.alloc(), question, answer, &mut writer);
+    Ended {
+        ran,
+        text,
+        unwritten: writer.take_error(),
+    }
+}
+
+/// Writes what is told of an answer, by the files that a request names.
+fn check<'a, T: Threads + Sync, S: Alter + Drop>(
+    threads: &T,
+    rt: &HostRuntime,
+    request: &Request<'a>,
+) -> Ended<'a, S> {
+    match Text::of_files(rt, request.texts.as_slice()) {
+        Ok(text) => check_files(threads, rt, text),
+        Err(unread) => refuse(rt, request.order, &unread),
     }
 }
 
@@ -359,6 +391,7 @@ fn carry_out<'a, T: Threads + Wait + Clock + Sync, S: Alter + Drop, O: Opener<S>
     file: O,
 ) -> Ended<'a, S> {
     match request.order {
+        Order::CheckAnswer => check(threads, rt, request),
         Order::LiveDay(_) => serve(threads, rt, request, file),
         Order::BookText(_) => print(rt, file),
         Order::Question { file: name, .. } | Order::Carry(name) => {

@@ -6,6 +6,7 @@ use gd_messages::{Source, message_of};
 use gd_replies::Reply;
 use gd_text_part::Form;
 use sqlite::Error;
+use std::alloc::AllocError;
 use std::io;
 use std::io::{ErrorKind, IsTerminal};
 
@@ -37,6 +38,13 @@ pub(crate) fn tell_unopened(rt: &HostRuntime, name: &str, why: &str) {
     }
 }
 
+/// The same, with a cause that there may have been no memory for.
+pub(crate) fn tell_cause(rt: &HostRuntime, name: &str, cause: Result<String, AllocError>) {
+    if let Ok(cause) = cause {
+        tell_unopened(rt, name, cause.as_str());
+    }
+}
+
 /// Tells why a text was not read.
 pub(crate) fn tell_unread(rt: &HostRuntime, order: Order<'_>, unread: &Unread<'_>) {
     match unread {
@@ -62,7 +70,7 @@ pub(crate) fn tell_unclosed(rt: &HostRuntime, error: &Error) {
     }
 }
 
-/// How the text of an order is read. Who audits or migrates an archive reads none.
+/// How the text of an order is read. Who audits or migrates an archive reads none, and that of an answer's check is read in parts.
 fn form_of(order: Order<'_>) -> Option<Form> {
     match order {
         Order::Text(Command::CheckAllowed) => Some(Form::CheckAllowed),
@@ -73,7 +81,7 @@ fn form_of(order: Order<'_>) -> Option<Form> {
         Order::Text(Command::Day) | Order::ArchivedDay(_) | Order::LiveDay(_) => Some(Form::Day),
         Order::Text(Command::Office) => Some(Form::Office),
         Order::Question { .. } | Order::Carry(_) => Some(Form::Day),
-        Order::Audit(_) | Order::Migrate(_) | Order::BookText(_) => None,
+        Order::CheckAnswer | Order::Audit(_) | Order::Migrate(_) | Order::BookText(_) => None,
     }
 }
 

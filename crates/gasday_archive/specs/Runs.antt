@@ -5,8 +5,6 @@ use Rattle.sqlite.specs.Held.{Held, state}
 use Rattle.sqlite.specs.State.{HasCleanDisk}
 use Rattle.sqlite.specs.declared.error.Error.{Error}
 use Rattle.gd_archive.specs.Calls as archive
-use Rattle.gd_journal_store.specs.Table.{journal}
-use Rattle.gasday_live.specs.Audits as book
 use Rattle.gd_archive.specs.declared.fault.AuditFault.{AuditFault}
 use Rattle.gd_archive_store.specs.Calls.{Makes}
 use Rattle.gd_archive_store.specs.declared.fault.StoreFault.{StoreFault}
@@ -36,12 +34,10 @@ use Rattle.gasday_archive.specs.Keeping.{KeepAnswer, KeepsPublished, all_keep_ro
 -- ---- an archive that is open
 
 module _ {S : Type 0} (g : Ghosts S) where
-  -- it is audited, and that is told: as a book's file, where it is one, and else as an archive
+  -- it is audited, and that is told
   abbrev pub TellsAudit : Held S → Held S → Told → Type 0
   TellsAudit old new a =
-      (((state g old).now.schema ≡ journal) × book.Audits (state g old) a)
-      ⊎ (((state g old).now.schema ≢ journal)
-      × ((found : Result ℕ AuditFault) × archive.Audits (state g old) (state g new) found × (a ≡ audited found)))
+      (found : Result ℕ AuditFault) × archive.Audits (state g old) (state g new) found × (a ≡ audited found)
 
   -- it is migrated, and that is told
   abbrev pub TellsMigration : Held S → Held S → Told → Type 0

@@ -11,7 +11,7 @@ use gd_units::{CycleNo, Name};
 use std::alloc::{AllocError, Global};
 
 /// An archive can't be opened, read or written.
-pub(crate) fn of_no_store(alloc: Global) -> Result<Answer, AllocError>
+pub fn of_no_store(alloc: Global) -> Result<Answer, AllocError>
     ensures { IfOk result (λ a. answer_seen a ≡ spec.no_store) }
 {
     of_one(alloc, Reply::Store, 2)

@@ -6,7 +6,7 @@ ghost use Rattle.gasday_words.specs.Ordered.{seen};
 ghost use Rattle.gasday_archive.specs.Orders as orders;
 ghost use Rattle.gasday_archive.specs.Runs.{OrNoMemory, Tells};
 
-use crate::opened::{Opener, Outcome, tell_audit, tell_day, tell_migration};
+use crate::opened::{Opener, Outcome, tell_day, tell_migration};
 use gasday_part::answer_of;
 use gasday_words::{Command, Order};
 use sqlite::Alter;
@@ -27,12 +27,12 @@ fn answer_command<S: Alter + Drop>(
 }
 
 /// What an order is answered, and the archive that it opened: its exit status is 0 where the answer is good, 1 where a schedule,
-/// a price or a cut is broken, a posting was kept before, an archive is unsound or is not to be migrated, and 2 after a fault
-/// of the text, the archive or memory. Who audits or migrates reads no text; a file that keeps a book is audited as such.
+/// a price or a cut is broken, a posting was kept before or an archive is not to be migrated, and 2 after a fault
+/// of the text, the archive or memory. Who migrates reads no text.
 ///
 /// The opener gives the archive of the order's FILE. It is called once at most, and only for an order with a FILE: for a gas day
 /// only once its text and its calendar are good. What it gave comes back as it is left. It asks for an order other than
-/// `office`, which waits for locks, and than those on a book's file, which answer no text.
+/// `office`, which waits for locks, and than those that check an answer, audit a file, or are on a book's, which answer no one text.
 pub fn answer_to<S: Alter + Drop, O: Opener<S>>(
     rt: &(impl Threads + Sync),
     alloc: Global,
@@ -48,10 +48,12 @@ pub fn answer_to<S: Alter + Drop, O: Opener<S>>(
     match order {
         Order::Text(command) => answer_command(rt, alloc, command, text),
         Order::ArchivedDay(_) => tell_day(rt, alloc, text, opener),
-        Order::Audit(_) => tell_audit(rt, alloc, opener.open()),
         Order::Migrate(_) => tell_migration(alloc, opener.open()),
-        Order::LiveDay(_) | Order::BookText(_) | Order::Question { .. } | Order::Carry(_) => {
-            unreachable!()
-        }
+        Order::CheckAnswer
+        | Order::Audit(_)
+        | Order::LiveDay(_)
+        | Order::BookText(_)
+        | Order::Question { .. }
+        | Order::Carry(_) => { unreachable!() }
     }
 }

@@ -1,4 +1,4 @@
-//! The commands of the program `gasday` that have an archive: `day --archive FILE`, `audit FILE` and `migrate FILE`.
+//! The commands of the program `gasday` that have an archive: `day --archive FILE`, `audit FILE` of one, and `migrate FILE`.
 #![tactic(auto)]
 
 mod answer;
@@ -7,5 +7,6 @@ mod engine;
 mod keeps;
 mod opened;
 
+pub use answer::of_no_store;
 pub use engine::answer_to;
-pub use opened::{Opener, Outcome};
+pub use opened::{Opener, Outcome, audit_archive};

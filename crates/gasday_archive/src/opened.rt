@@ -10,12 +10,10 @@ ghost use Rattle.gasday_archive.specs.Runs as spec;
 
 use crate::answer::{of_audit, of_migration, of_no_store};
 use crate::day::tell_in_archive;
-use gasday_live::audit_book;
 use gasday_part::{Answer, calendar_of, of_fault, of_no_calendar};
 use gd_archive::{audit, migrate};
 use gd_book::Book;
 use gd_day::{DayText, day_text_of};
-use gd_journal_store::is_journal;
 use gd_text_part::{Form, Row, rows_in};
 use sqlite::{Alter, Connection, Error};
 use std::alloc::{AllocError, Global};
@@ -55,39 +53,17 @@ impl<S: Alter + Drop> Outcome<S> {
     }
 }
 
-/// Audits an archive, or the book that a file keeps.
-fn audit_file<S: Alter>(
-    rt: &(impl Threads + Sync),
+/// Audits an archive that is open: how many of its postings are sound, or the first that is not, or why it can't be read. The only
+/// error is want of memory.
+pub fn audit_archive<S: Alter>(
     alloc: Global,
     conn: &mut Connection<S>,
 ) -> Result<Answer, AllocError>
     ensures { spec.Tells (λ a. HasCleanDisk (state S.Store conn.new)
         → spec.TellsAudit S.Store conn.old conn.new a) result }
 {
-    if is_journal(conn) {
-        return audit_book(rt, alloc, conn);
-    }
     let found = audit(conn, alloc);
     of_audit(alloc, &found)
-}
-
-/// Audits what was opened.
-pub(crate) fn tell_audit<S: Alter + Drop>(
-    rt: &(impl Threads + Sync),
-    alloc: Global,
-    opened: Result<Connection<S>, Error>,
-) -> Outcome<S>
-    ensures { spec.Tells (spec.TellsOf S.Store (spec.TellsAudit S.Store) opened result.archive)
-        result.answer }
-{
-    let Ok(mut conn) = opened else {
-        return Outcome::unopened(of_no_store(alloc));
-    };
-    let answer = audit_file(rt, alloc, &mut conn);
-    Outcome {
-        answer,
-        archive: Some(conn),
-    }
 }
 
 /// Migrates what was opened.

@@ -2,3 +2,5 @@ pub mod Writing
 pub mod Finding
 mod Openings
 pub mod Inquiring
+mod Judging
+mod SolutionExamples

@@ -3,3 +3,4 @@ pub mod AnswerSeen
 pub mod Output
 pub mod OpenedBooks
 pub mod Inquiries
+pub mod Solutions

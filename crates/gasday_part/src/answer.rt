@@ -50,7 +50,7 @@ pub fn last_of(answer: &Result<Answer, AllocError>) -> Option<Reply>
 }
 
 /// How a command's text is read.
-fn form_of(command: Command) -> Form
+pub(crate) fn form_of(command: Command) -> Form
     ensures { result ≡ spec.form_of command }
 {
     match command {

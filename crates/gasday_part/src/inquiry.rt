@@ -48,7 +48,7 @@ pub struct Written {
 }
 
 /// The bytes of rows.
-fn text_of(alloc: Global, rows: &[Reply]) -> Result<String, AllocError>
+pub(crate) fn text_of(alloc: Global, rows: &[Reply]) -> Result<String, AllocError>
     ensures { IfOk result (λ text. string_bytes text ≡ lines_of rows.now) }
 {
     let mut text = String::new(alloc);

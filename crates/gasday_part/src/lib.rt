@@ -8,6 +8,7 @@ mod day;
 mod engine;
 mod inquiry;
 mod opened;
+mod solution;
 mod solve;
 
 pub use answer::{Answer, answer_of, last_of, of_fault, of_one};
@@ -15,3 +16,4 @@ pub use day::{DayFault, calendar_of, of_no_calendar};
 pub use engine::write_answer;
 pub use inquiry::{Inquiry, Printed, Written, ask_text, print_inquiry, write_printed, write_rows};
 pub use opened::{NoBook, of_no_book, open_book};
+pub use solution::check_answer;

@@ -4,7 +4,7 @@ use gasday_words::{Command, Order, Request, UsageFault, request_of};
 use std::alloc::AllocError;
 use std::test::Fail;
 
-const LINES: [(&[&str], &str); 57] = [
+const LINES: [(&[&str], &str); 60] = [
     (&[], "allowed"),
     (&["gasday"], "allowed"),
     (&["gasday", "check", "allowed"], "allowed"),
@@ -71,6 +71,12 @@ const LINES: [(&[&str], &str); 57] = [
         &["gasday", "check", "allowed", "allowed"],
         "allowed of allowed",
     ),
+    (
+        &["gasday", "check", "q.csv", "a.csv"],
+        "answer of q.csv and a.csv",
+    ),
+    (&["gasday", "check", "all", "-"], "answer of all and -"),
+    (&["gasday", "check", "all", "a.csv", "b.csv"], "usage"),
     (&["gasday", "--nonsense"], "usage"),
     (&["gasday", "check", "--nonsense"], "usage"),
     (&["gasday", "check", "allowed", "--nonsense"], "usage"),
@@ -92,6 +98,7 @@ fn command_name(command: Command) -> &'static str {
 fn order_name(order: Order<'_>) -> &'static str {
     match order {
         Order::Text(command) => command_name(command),
+        Order::CheckAnswer => "answer",
         Order::ArchivedDay("a.db") => "archived day",
         Order::LiveDay("a.db") => "live day",
         Order::BookText("a.db") => "text",

@@ -14,12 +14,13 @@ use Rattle.clap.specs.declared.error.kind.ErrorKind.TheVariants as kind
 use Rattle.gasday_words.specs.declared.order.Request.{Request}
 use Rattle.gasday_words.specs.declared.fault.UsageFault.{UsageFault}
 use Rattle.gasday_words.specs.declared.fault.UsageFault.TheVariants.{Help, Version, Usage, OutOfMemory}
+use Rattle.gasday_words.specs.declared.order.Command.{Command}
 use Rattle.gasday_words.specs.declared.order.Command.TheVariants.{CheckAllowed, CheckBest, CheckCut, Solve, Calendar, Day, Office}
 use Rattle.gasday_words.specs.Ordered as ordered
 use Rattle.gasday_words.specs.Ordered.{Ordered, Requested, over_texts, requested, waiting, without_texts}
 use Rattle.gasday_words.specs.Meaning as spec
-use Rattle.gasday_words.specs.Meaning.{gasday, meaning_of, arguments, cycle_named, cycles, forms, forms_with, day_forms_with, clashes, helps, number_named, versions, request_from, request_in}
-use Rattle.gasday_words.specs.Outcomes.{IsHelp, IsRequest, IsTold, IsUsageAnswer, IsVersion, RefusesClashes, RefusesNumbers, TakesDays, TakesFiles, TakesForm, TakesForms, TakesHelps, TakesOver, TakesRounds, TakesTexts, TakesVersions, TakesWaits}
+use Rattle.gasday_words.specs.Meaning.{gasday, meaning_of, arguments, check_order, check_texts, cycle_named, cycles, forms, forms_with, day_forms_with, clashes, helps, number_named, versions, request_from, request_in}
+use Rattle.gasday_words.specs.Outcomes.{IsHelp, IsRequest, IsTold, IsUsageAnswer, IsVersion, RefusesChecks, RefusesClashes, RefusesNumbers, TakesAnswers, TakesDays, TakesFiles, TakesForm, TakesForms, TakesHelps, TakesOver, TakesRounds, TakesTexts, TakesVersions, TakesWaits}
 use Rattle.gasday_words.proofs.Entering.{Meets, left_to}
 use Rattle.gasday_words.proofs.Plain.{Word, fault_is, faults, known, level, level_is, named, plain, rows, rows_are, text_of}
 use Rattle.gasday_words.proofs.Numbers.{decimal_is_plain, decimal_names}
@@ -240,6 +241,32 @@ of_two words r by a b rest others other another =
 pub takes_texts : (words : List Text) (r : Result Request UsageFault) → IsClaps words r → TakesTexts words r
 takes_texts words r by a b rest others other another =
     (of_one words r by a rest other, of_two words r by a b rest others other another)
+
+-- the request that `check` makes of these words, where its word names this check or none
+abbrev checked_so : Text → List Text → Option Command → Option Requested
+checked_so word texts check =
+    option_and_then (λ o. Some (over_texts o (check_texts check (Some word) texts))) (check_order check (Some word) texts)
+
+-- words that name a question's file and an answer's are answered by the check of the two
+pub takes_answers : (words : List Text) (r : Result Request UsageFault) → IsClaps words r → TakesAnswers words r
+unfolding clap_on_literals
+takes_answers words r by a b question answer other another none h =
+    let Q = named a question other in
+    let A = named b answer another in
+    answered_by words r by (codes "check") spec.check check (Q ∷ A ∷ []) refl h (over ordered.CheckAnswer (Q ∷ A ∷ []))
+    (ap (checked_so (a ∷ question) ((b ∷ answer) ∷ [])) none)
+
+-- words behind `check` that name none, and no two files, are answered by a usage fault
+pub refuses_checks : (words : List Text) (r : Result Request UsageFault) → IsClaps words r → RefusesChecks words r
+unfolding clap_on_literals
+refuses_checks words r by a b c word text other is_word is_text is_other none =
+    let W = named a word is_word in
+    let A = named b text is_text in
+    let B = named c other is_other in
+    let is = refused words r by (codes "check") spec.check check in (
+      (λ h. is (W ∷ []) refl h refl (ap (checked_so (a ∷ word) []) none)),
+      λ h. is (W ∷ A ∷ B ∷ []) refl h refl (ap (checked_so (a ∷ word) ((b ∷ text) ∷ (c ∷ other) ∷ [])) none),
+    )
 
 -- words of each form that names an archive or a book's file are answered by its order
 pub takes_files : (words : List Text) (r : Result Request UsageFault) → IsClaps words r → TakesFiles words r

@@ -1,5 +1,5 @@
 -- The command line of the program, and what its words mean.
-use Rattle.std.specs.Prelude.{ℕ, true, List, [], ◌∷◌, Option, Some, None, option_map, option_and_then, unwrap_or, drop, codes, if◌then◌else◌}
+use Rattle.std.specs.Prelude.{ℕ, ◌==◌, true, List, [], ◌∷◌, length, Option, Some, None, option_map, option_and_then, unwrap_or, drop, codes, if◌then◌else◌}
 use Rattle.std.specs.Str.{bytes_eq}
 use Rattle.std.specs.Str.Parse.{digits_value, without_leading_plus}
 use Rattle.gasday_words.specs.declared.order.Command.{Command}
@@ -120,6 +120,18 @@ check_named (Some word) =
     else if bytes_eq word (codes "cut") then Some CheckCut
     else None
 
+-- the order of `check`: the check that its word names, over any texts; or that of an answer, where the word names none, and so is
+-- a question's file, with the answer's behind it
+abbrev pub check_order : Option Command → Option Text → List Text → Option Ordered
+check_order (Some named) word texts = Some (ordered.Text named)
+check_order None (Some question) texts = if length texts == 1 then Some ordered.CheckAnswer else None
+check_order None None texts = None
+
+-- the files that `check` reads: where its word names no check that is the first of them
+abbrev pub check_texts : Option Command → Option Text → List Text → List Text
+check_texts None (Some question) texts = question ∷ texts
+check_texts _ _ texts = texts
+
 -- a gas day, with an archive or on a book's file where one is named; both together name no order
 abbrev pub day_kept_in : Option Text → Option Text → Option Ordered
 day_kept_in None None = Some (ordered.Text Day)
@@ -156,10 +168,14 @@ question_of _ _ _ = None
 abbrev pub question_in : List Row → Option Ordered
 question_in given = question_of (first_of (codes "file") given) (first_of (codes "cycle") given) (first_of (codes "round") given)
 
+-- the texts that a subcommand was given
+abbrev pub texts_in : List Row → List Text
+texts_in given = unwrap_or (all_of (codes "text") given) []
+
 -- the order of a subcommand's name and of what it was given
 abbrev pub order_from : Text → List Row → Option Ordered
 order_from name given =
-    if bytes_eq name (codes "check") then option_map ordered.Text (check_named (first_of (codes "what") given))
+    if bytes_eq name (codes "check") then check_order (check_named (first_of (codes "what") given)) (first_of (codes "what") given) (texts_in given)
     else if bytes_eq name (codes "solve") then Some (ordered.Text Solve)
     else if bytes_eq name (codes "calendar") then Some (ordered.Text Calendar)
     else if bytes_eq name (codes "day") then day_kept_in (first_of (codes "archive") given) (first_of (codes "book") given)
@@ -171,9 +187,11 @@ order_from name given =
     else if bytes_eq name (codes "migrate") then option_map ordered.Migrate (first_of (codes "file") given)
     else None
 
--- the texts that a subcommand was given
-abbrev pub texts_in : List Row → List Text
-texts_in given = unwrap_or (all_of (codes "text") given) []
+-- the files that the order of a subcommand reads, by its name and by what it was given
+abbrev pub texts_read : Text → List Row → List Text
+texts_read name given =
+    if bytes_eq name (codes "check") then check_texts (check_named (first_of (codes "what") given)) (first_of (codes "what") given) (texts_in given)
+    else texts_in given
 
 -- the seconds of which the word after `--wait` tells; without it there are none
 abbrev pub seconds_in : Option Text → Option ℕ
@@ -183,7 +201,7 @@ seconds_in (Some word) = number_named word
 -- the request of a subcommand's name and of what it was given
 abbrev pub request_from : Text → List Row → Option Requested
 request_from name given =
-    option_and_then (λ o. option_map (λ s. record { order = o; texts = texts_in given; wait = s }) (seconds_in (first_of (codes "wait") given)))
+    option_and_then (λ o. option_map (λ s. record { order = o; texts = texts_read name given; wait = s }) (seconds_in (first_of (codes "wait") given)))
     (order_from name given)
 
 -- the request of the subcommand that was met: with none it is `check allowed`

@@ -8,6 +8,8 @@ use Rattle.gasday_words.specs.declared.order.Request.{Request}
 -- an order, with its FILE as bytes
 pub data Ordered : Type 0 where
   Text : Command → Ordered
+  -- of a question's text with an answer behind it
+  CheckAnswer : Ordered
   ArchivedDay : List ℕ → Ordered
   LiveDay : List ℕ → Ordered
   BookText : List ℕ → Ordered
@@ -20,6 +22,7 @@ pub data Ordered : Type 0 where
 -- an order as a clause sees it
 abbrev pub seen : Order → Ordered
 seen (order.Text command) = Text command
+seen order.CheckAnswer = CheckAnswer
 seen (order.ArchivedDay file) = ArchivedDay file.now
 seen (order.LiveDay file) = LiveDay file.now
 seen (order.BookText file) = BookText file.now

@@ -11,7 +11,7 @@ use Rattle.gasday_words.specs.declared.fault.UsageFault.{UsageFault}
 use Rattle.gasday_words.specs.declared.fault.UsageFault.TheVariants.{Help, Version, Usage, OutOfMemory}
 use Rattle.gasday_words.specs.Ordered as ordered
 use Rattle.gasday_words.specs.Ordered.{Ordered, Requested, over_texts, requested, waiting, without_texts}
-use Rattle.gasday_words.specs.Meaning.{gasday, meaning_of, arguments, cycle_named, cycles, forms, forms_with, day_forms_with, clashes, helps, most_number, number_named, versions}
+use Rattle.gasday_words.specs.Meaning.{gasday, meaning_of, arguments, check_named, cycle_named, cycles, forms, forms_with, day_forms_with, clashes, helps, most_number, number_named, versions}
 
 -- what is left of a request where clap finds these kinds of fault in the words
 abbrev pub unless_at_fault : Kinds → Option Requested → Option Requested
@@ -102,6 +102,22 @@ OfOneOrTwo says =
 -- these files
 abbrev pub TakesTexts : List Text → Result Request UsageFault → Type 0
 TakesTexts words r = OfOneOrTwo (λ texts. All (TakesForm words texts r) forms)
+
+-- words that name the files of a question and of an answer, whatever their names, are taken as the check of the answer over the two,
+-- where the first name is no word for a check
+abbrev pub TakesAnswers : List Text → Result Request UsageFault → Type 0
+TakesAnswers words r =
+    (a b : ℕ) (question answer : List ℕ) → (a == hyphen) ≡ false → (b == hyphen) ≡ false → check_named (Some (a ∷ question)) ≡ None
+    → arguments words ≡ codes "check" ∷ (a ∷ question) ∷ (b ∷ answer) ∷ []
+    → IsRequest (over_texts ordered.CheckAnswer ((a ∷ question) ∷ (b ∷ answer) ∷ [])) r
+
+-- a word behind `check` that is no word for a check is a usage fault where no text stands behind it, or more than one
+abbrev pub RefusesChecks : List Text → Result Request UsageFault → Type 0
+RefusesChecks words r =
+    (a b c : ℕ) (word text other : List ℕ) → (a == hyphen) ≡ false → (b == hyphen) ≡ false → (c == hyphen) ≡ false
+    → check_named (Some (a ∷ word)) ≡ None
+    → (arguments words ≡ codes "check" ∷ (a ∷ word) ∷ [] → IsUsageAnswer r)
+    × (arguments words ≡ codes "check" ∷ (a ∷ word) ∷ (b ∷ text) ∷ (c ∷ other) ∷ [] → IsUsageAnswer r)
 
 -- words of each form that names an archive or a book's file are taken as its order, whatever the file: a name that isn't
 -- empty, and doesn't begin with `-`

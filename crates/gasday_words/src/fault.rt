@@ -54,7 +54,7 @@ fn text_of_no_value(
     )
 }
 
-const CHECKS: &str = "  [possible values: allowed, best, cut]\n";
+const CHECKS: &str = "  [possible values: allowed, best, cut; or QUESTION ANSWER, two files]\n";
 
 const CYCLES: &str = "  [possible values: 1, 2, 3, 4, 5]\n";
 

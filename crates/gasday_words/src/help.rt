@@ -195,6 +195,7 @@ pub(crate) const SHORT_OF_CHECK: &str = "Examples:
   gasday check allowed < examples/two-lines.csv
   gasday check best < examples/two-lines-priced.csv
   gasday check cut < examples/pool-cut.csv
+  gasday check question.csv answer.csv
 
 'gasday check --help' tells more.";
 
@@ -202,7 +203,8 @@ pub(crate) const SHORT_OF_CHECK: &str = "Examples:
 pub(crate) const LONG_OF_CHECK: &str =
     "It reads a pipeline and a question: rows segment, point, pool, question, capacity and line; and behind
 them rows sched, and for 'best' rows price, or for 'cut' rows inside in place of them ('gasday --help'
-tells each row). It prints one of
+tells each row). Of 'check QUESTION ANSWER' the second file is all that solve answered to the first; the
+check that it asks for is made of its rows. It prints one of
   allowed             The schedule is allowed; total rows follow.
   best                The schedule is best; total rows follow, and of solve sched and price rows.
   total,CLASS,QUANTITY
@@ -229,10 +231,16 @@ always another schedule, other prices or another set, for instance those of solv
                       high.
   NotCut              The set has no excess above 0.
 
+Of an answer its rows are checked first, and then its best row with the totals, or its cut row: what says
+another thing than the check, as a total or the excess, is BadField there, and an answer without such a
+row is Missing. Rows are counted over both files. A file that is called allowed, best or cut is named
+./best.
+
 Examples:
   gasday check allowed < examples/two-lines.csv
   gasday check best < examples/two-lines-priced.csv
-  gasday check cut < examples/pool-cut.csv";
+  gasday check cut < examples/pool-cut.csv
+  gasday solve question.csv | gasday check question.csv -";
 
 /// What stands under the help of `solve`.
 pub(crate) const SHORT_OF_SOLVE: &str = "Example:

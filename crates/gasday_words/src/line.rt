@@ -20,12 +20,13 @@ It reads rows of eight comma-separated fields from files or from standard input,
 its answer to standard output as rows of the same form.";
 
 const ABOUT_CHECK: &str =
-    "Tells whether a schedule is allowed or best, or that none can be: 'check allowed', 'check best', 'check cut'";
+    "Tells whether a schedule is allowed or best, or that none can be: 'check allowed', 'check best', 'check cut'; or whether an answer is right: 'check QUESTION ANSWER'";
 
 const HELP_OF_WHAT: &str = "allowed: each line's quantity lies between its floor and its ceiling,
 each load is within its capacity, and each pool is in balance;
 best: prices show that no allowed schedule is better;
-cut: a set of places, points and pools shows that no schedule is allowed";
+cut: a set of places, points and pools shows that no schedule is allowed;
+or QUESTION, the file of a question, with ANSWER behind it, what solve answered to it";
 
 const HELP_OF_TEXTS: &str =
     "the files that make up the text, in order; - or no name is standard input";
@@ -89,7 +90,7 @@ fn what<'a>(alloc: Global) -> Arg<'a>
         .help(HELP_OF_WHAT)
 }
 
-/// `check WHAT [TEXT]..`.
+/// `check WHAT [TEXT]..`, and `check QUESTION ANSWER`.
 fn check<'a>(alloc: Global) -> Result<CommandLine<'a>, AllocError>
     ensures app { IfOk result (λ c. app_of c ≡ spec.check) }
     ensures local { IfOk result (λ c. (out-Command c).has_globals ≡ false) }

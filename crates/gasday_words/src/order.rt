@@ -1,7 +1,7 @@
 //! The orders, and which of them the matches of the command line name.
 
-ghost use Rattle.std.specs.Prelude.{◌≡◌, IfOk, map, option_map};
-ghost use Rattle.clap.specs.Words.{first_of, found_of, rows_of, subcommand_rows_of};
+ghost use Rattle.std.specs.Prelude.{◌≡◌, ◌∷◌, List, IfOk, length, map, option_map};
+ghost use Rattle.clap.specs.Words.{Text, first_of, found_of, rows_of, subcommand_rows_of};
 ghost use Rattle.gasday_words.specs.Meaning as spec;
 ghost use Rattle.gasday_words.specs.Ordered as ordered;
 ghost use Rattle.gasday_words.specs.Ordered.{requested, seen};
@@ -33,6 +33,8 @@ pub enum Command {
 pub enum Order<'a> {
     /// A command that needs no archive and no book's file.
     Text(Command),
+    /// `check QUESTION ANSWER`: tells whether an answer to a question is right, by the check that it asks for itself.
+    CheckAnswer,
     /// `day --archive FILE`: as `day`, and what is published is kept in the archive.
     ArchivedDay(&'a str),
     /// `day --book FILE`: serves calls as they come, on the book that the file keeps.
@@ -76,13 +78,15 @@ fn check_named(word: Option<&str>) -> Option<Command>
     }
 }
 
-/// The check that the word after `check` names, as an order.
-fn check_of<'a>(word: Option<&str>) -> Option<Order<'a>>
-    ensures { option_map seen result
-        ≡ option_map ordered.Text (spec.check_named (option_map (λ w. w.now) word.entry)) }
+/// The order of `check`: the check that its word names, or that of an answer, where one text stands behind another word.
+fn check_of<'a>(word: Option<&str>, texts: usize) -> Option<Order<'a>>
+    ensures { (all : List Text) → length all ≡ texts → option_map seen result
+        ≡ spec.check_order (spec.check_named (option_map (λ w. w.now) word.entry))
+        (option_map (λ w. w.now) word.entry) all }
 {
     match check_named(word) {
         Some(check) => Some(Order::Text(check)),
+        None if word.is_some() && texts == 1 => Some(Order::CheckAnswer),
         None => None,
     }
 }
@@ -196,12 +200,22 @@ fn word_given<'a>(given: &ArgMatches<'a>, argument: &str) -> Option<&'a str>
     given.get_str(argument)
 }
 
+/// How many texts were given.
+fn text_count(given: &ArgMatches) -> usize
+    ensures { result ≡ length (spec.texts_in (rows_of (found_of given.now))) }
+{
+    match given.get_strs("text") {
+        Some(texts) => texts.len(),
+        None => 0,
+    }
+}
+
 /// The order of a subcommand's name and of what it was given.
 fn order_from<'a>(name: &str, given: &ArgMatches<'a>) -> Option<Order<'a>>
     ensures { option_map seen result ≡ spec.order_from name.now (rows_of (found_of given.now)) }
 {
     match name {
-        "check" => check_of(word_given(given, "what")),
+        "check" => check_of(word_given(given, "what"), text_count(given)),
         "solve" => Some(Order::Text(Command::Solve)),
         "calendar" => Some(Order::Text(Command::Calendar)),
         "day" => day_kept_in(word_given(given, "archive"), word_given(given, "book")),
@@ -226,6 +240,51 @@ fn texts_given<'a>(alloc: Global, given: &ArgMatches<'a>) -> Result<Vec<&'a str>
     match given.get_strs("text") {
         Some(texts) => Vec::from_slice(alloc, texts),
         None => Ok(Vec::new(alloc)),
+    }
+}
+
+/// A file, and others behind it.
+fn with_first<'a>(
+    alloc: Global,
+    first: &'a str,
+    others: &[&'a str],
+) -> Result<Vec<&'a str>, AllocError>
+    ensures { IfOk result (λ v. map (λ t. t.now) v.items ≡ first.now ∷ map (λ t. t.now) others.now) }
+{
+    let mut texts = Vec::new(alloc);
+    texts.push(first)?;
+    texts.extend_from_slice(others)?;
+    Ok(texts)
+}
+
+/// The files that `check` reads: where its word names no check that is the first of them.
+fn check_texts<'a>(
+    alloc: Global,
+    word: Option<&'a str>,
+    texts: Vec<&'a str>,
+) -> Result<Vec<&'a str>, AllocError>
+    ensures { IfOk result (λ v. map (λ t. t.now) v.items ≡ spec.check_texts
+        (spec.check_named (option_map (λ w. w.now) word.entry))
+        (option_map (λ w. w.now) word.entry) (map (λ t. t.now) texts.entry.items)) }
+{
+    match (check_named(word), word) {
+        (None, Some(question)) => with_first(alloc, question, texts.as_slice()),
+        _ => Ok(texts),
+    }
+}
+
+/// The files that the order of a subcommand reads, by its name and by what it was given.
+fn texts_read<'a>(
+    alloc: Global,
+    name: &str,
+    given: &ArgMatches<'a>,
+) -> Result<Vec<&'a str>, AllocError>
+    ensures { IfOk result (λ v. map (λ t. t.now) v.items ≡ spec.texts_read name.now (rows_of (found_of given.now))) }
+{
+    let texts = texts_given(alloc, given)?;
+    match name {
+        "check" => check_texts(alloc, word_given(given, "what"), texts),
+        _ => Ok(texts),
     }
 }
 
@@ -254,7 +313,7 @@ fn request_from<'a>(
     let Some(wait) = seconds_in(word_given(given, "wait")) else {
         return Ok(None);
     };
-    let texts = texts_given(alloc, given)?;
+    let texts = texts_read(alloc, name, given)?;
     Ok(Some(Request { order, texts, wait }))
 }
 
@@ -274,8 +333,8 @@ pub(crate) fn request_in<'a>(
     request_from(alloc, name, given)
 }
 
-/// Why words that clap takes name no order: the word is no check, no cycle, no round or no number of seconds, or a gas day is given
-/// both an archive and a book's file.
+/// Why words that clap takes name no order: a word is no check, and not one text stands behind it, or it is no cycle, no round or
+/// no number of seconds, or a gas day is given both an archive and a book's file.
 #[derive(Clone, Copy)]
 pub(crate) enum NoOrder<'a> {
     Check(&'a str),

@@ -4,7 +4,7 @@ ghost use Rattle.std.specs.Prelude.{◌≡◌, [], map, Some, true, is_some, IfO
 ghost use Rattle.clap.specs.Words.{takes, fault_of as kinds_of_fault, subcommand_rows_of};
 ghost use Rattle.gasday_words.specs.Meaning as spec;
 ghost use Rattle.gasday_words.specs.Ordered.{requested};
-ghost use Rattle.gasday_words.specs.Outcomes.{IsNoRequest, IsTold, RefusesClashes, RefusesNumbers, TakesDays, TakesFiles, TakesForms, TakesHelps, TakesRounds, TakesTexts, TakesVersions, TakesWaits};
+ghost use Rattle.gasday_words.specs.Outcomes.{IsNoRequest, IsTold, RefusesChecks, RefusesClashes, RefusesNumbers, TakesAnswers, TakesDays, TakesFiles, TakesForms, TakesHelps, TakesRounds, TakesTexts, TakesVersions, TakesWaits};
 
 use crate::fault::{UsageFault, fault_of, no_order};
 use crate::line::gasday;
@@ -13,8 +13,8 @@ use clap::ArgMatches;
 use std::alloc::Global;
 use std::convert::AsStr;
 
-/// The request that the matches name. They name none where a word names no check, no cycle, no round or no number of
-/// seconds, or where a gas day is given both an archive and a book's file.
+/// The request that the matches name. They name none where a word names no cycle, no round or no number of seconds,
+/// or none of the checks and has not one text behind it, or where a gas day is given both an archive and a book's file.
 fn request_named<'a>(alloc: Global, matches: &ArgMatches<'a>) -> Result<Request<'a>, UsageFault>
     ensures ok { IfOk result (λ o. spec.request_in (subcommand_rows_of matches.now) ≡ Some (requested o)) }
     ensures err { IfErr result (IsNoRequest (spec.request_in (subcommand_rows_of matches.now))) }
@@ -57,8 +57,8 @@ fn request_by_clap<'a, S: AsStr>(alloc: Global, words: &'a [S]) -> Result<Reques
 /// that make up the text.
 ///
 /// `Help` and `Version` come where the words ask for them, and `Usage` where they are at fault: an unknown word or
-/// option, a word that is missing, one too many, one that is no check, cycle, round or number of seconds where it
-/// has to be, or two options that exclude each other. `OutOfMemory` can come at any words.
+/// option, a word that is missing, one too many, one that is no cycle, round or number of seconds where it has to be,
+/// one behind `check` that names none and has not one text behind it, or two options that exclude each other. `OutOfMemory` can come at any words.
 pub fn request_of<'a, S: AsStr>(alloc: Global, words: &'a [S]) -> Result<Request<'a>, UsageFault>
     // A request is what the words mean, and comes only where clap finds no fault in them.
     ensures meaning { IfOk result (λ o.
@@ -73,6 +73,8 @@ pub fn request_of<'a, S: AsStr>(alloc: Global, words: &'a [S]) -> Result<Request
     // The forms of the program.
     ensures forms { TakesForms (map S.text words.now) result }
     ensures texts { TakesTexts (map S.text words.now) result }
+    ensures answers { TakesAnswers (map S.text words.now) result }
+    ensures checks { RefusesChecks (map S.text words.now) result }
     ensures files { TakesFiles (map S.text words.now) result }
     ensures days { TakesDays (map S.text words.now) result }
     ensures rounds { TakesRounds (map S.text words.now) result }

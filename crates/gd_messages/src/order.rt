@@ -24,6 +24,7 @@ pub(crate) fn told_of_missing(spot: Spot, is_head: bool) -> Result<String, Alloc
         _ if spot.number == 1 => "the text has no rows",
         (Some(Form::Office), true) => "a block of the text has no day row, or the text has none",
         (Some(Form::Day | Form::Calendar), true) => "the text has no day row",
+        (None, true) => "the text has no question row, or the answer no row",
         (_, true) => "the text has no question row",
         (Some(Form::Office), false) => "a block of the text has no segment row",
         (_, false) => "the text has no segment row, and a pipeline has one at least",

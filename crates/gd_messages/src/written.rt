@@ -107,10 +107,18 @@ fn told_of_field_of(spot: Spot, kind: RowKind, k: usize) -> Result<String, Alloc
     )
 }
 
-/// What is told of field `k` of a row, which isn't what is wanted of it.
+/// What is told of field `k` where the head of an answer isn't what the check of its rows tells.
+fn told_of_head(spot: Spot, k: usize) -> Result<String, AllocError> {
+    let (place, written) = (spot.place, Shown(spot.record.field(k)));
+    format!(in spot.source.alloc;
+        "{place}: field {k} is {written}; an answer begins with what the check of its own rows tells"
+    )
+}
+
+/// What is told of field `k` of a row, which isn't what is wanted of it. Where a row is of a kind its first field is right.
 pub(crate) fn told_of_field(spot: Spot, k: usize) -> Result<String, AllocError> {
     match kind_of(spot.record.field(1)) {
-        Some(kind) => told_of_field_of(spot, kind, k),
-        None => told_of_kind(spot),
+        Some(kind) if k != 1 => told_of_field_of(spot, kind, k),
+        _ => told_of_head(spot, k),
     }
 }

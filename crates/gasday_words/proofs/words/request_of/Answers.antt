@@ -1,5 +1,5 @@
 use Rattle.std.proofs.Common.{map}
-use Rattle.gasday_words.proofs.Forms.{refuses_clashes, refuses_numbers, takes_days, takes_files, takes_forms, takes_helps, takes_rounds, takes_texts, takes_versions, takes_waits}
+use Rattle.gasday_words.proofs.Forms.{refuses_checks, refuses_clashes, refuses_numbers, takes_answers, takes_days, takes_files, takes_forms, takes_helps, takes_rounds, takes_texts, takes_versions, takes_waits}
 use Rattle.gasday_words.proofs.words.request_of.Goals as goal
 
 pub returns-clause-forms : goal.returns-clause-forms
@@ -12,6 +12,22 @@ returns-clause-forms g c = takes_forms (map g.S.AsStr.text c.args.words.now) c.r
 
 pub returns-clause-texts : goal.returns-clause-texts
 returns-clause-texts g c = takes_texts (map g.S.AsStr.text c.args.words.now) c.request_by_clap.result (record {
+  meaning = c.request_by_clap.ensures.meaning;
+  faultless = c.request_by_clap.ensures.faultless;
+  taken = c.request_by_clap.ensures.taken;
+  faults = c.request_by_clap.ensures.faults;
+})
+
+pub returns-clause-answers : goal.returns-clause-answers
+returns-clause-answers g c = takes_answers (map g.S.AsStr.text c.args.words.now) c.request_by_clap.result (record {
+  meaning = c.request_by_clap.ensures.meaning;
+  faultless = c.request_by_clap.ensures.faultless;
+  taken = c.request_by_clap.ensures.taken;
+  faults = c.request_by_clap.ensures.faults;
+})
+
+pub returns-clause-checks : goal.returns-clause-checks
+returns-clause-checks g c = refuses_checks (map g.S.AsStr.text c.args.words.now) c.request_by_clap.result (record {
   meaning = c.request_by_clap.ensures.meaning;
   faultless = c.request_by_clap.ensures.faultless;
   taken = c.request_by_clap.ensures.taken;

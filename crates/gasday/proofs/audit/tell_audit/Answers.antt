@@ -1,8 +1,9 @@
 use Rattle.std.proofs.Common.{◌≡◌, Some, IfOk, refl, sym, subst}
 use Rattle.gasday_part.specs.AnswerSeen.{answer_seen}
 use Rattle.gasday_archive.specs.Archives.{no_store}
-use Rattle.gasday_archive.specs.Runs.{TellsAudit, TellsOf}
-use Rattle.gasday_archive.proofs.opened.tell_audit.Goals as goal
+use Rattle.gasday_archive.specs.Runs.{TellsOf}
+use Rattle.gasday.specs.Audited.{TellsAudit}
+use Rattle.gasday.proofs.audit.tell_audit.Goals as goal
 
 pub returns-in_default : goal.returns-in_default
 returns-in_default g c = record {
