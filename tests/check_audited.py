@@ -133,7 +133,6 @@ class SpecFile:
             if all(part in words for part in name.split("◌") if part):
                 yield owner
 
-
     def paragraphs(self):
         """What stands between empty lines, but for what is imported: its lines, and the definitions that begin in it."""
         for text in re.split(r"\n\s*\n", self.path.read_text().rstrip("\n")):

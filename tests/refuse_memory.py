@@ -53,6 +53,8 @@ line,R1,D1,4,0,50,,
 
 SCHEDULE = "sched,1,60,,,,,\nsched,2,30,,,,,\n"
 
+PRICE = "price,S1,4,1,-6,,,\n"
+
 # What solve answers before the schedule.
 HEAD = "best,,,,,,,\ntotal,1,0,,,,,\ntotal,2,0,,,,,\ntotal,3,0,,,,,\ntotal,4,90,,,,,\n"
 
@@ -132,9 +134,8 @@ sched,1,70,,,,,
 
 TEXTS = {
     "check allowed": PIPELINE + SCHEDULE,
-    "check best": PIPELINE + SCHEDULE + "price,S1,4,1,-6,,,\n",
+    "check best": PIPELINE + SCHEDULE + PRICE,
     "check cut": PIPELINE + "inside,place,A,,,,,\n",
-    "check /dev/null -": PIPELINE + HEAD + SCHEDULE + "price,S1,4,1,-6,,,\n",
     "solve": PIPELINE,
     "calendar": 'day,2026-03-08,"CST6CDT,M3.2.0,M11.1.0",,,,,\n',
     "day": DAY,
@@ -397,6 +398,13 @@ def named_trial(program, library, folder):
     return Trial(library, folder, [program, "check", "allowed", net, offered], "")
 
 
+def answer_trial(program, library, folder):
+    """A question in a file, and the answer to it on standard input."""
+    question = folder / "question.csv"
+    question.write_text(PIPELINE)
+    return Trial(library, folder, [program, "check", question, "-"], HEAD + SCHEDULE + PRICE)
+
+
 def main():
     if len(sys.argv) != 4:
         print(__doc__.strip())
@@ -409,6 +417,7 @@ def main():
         subprocess.run(["cc", "-shared", "-fPIC", "-O1", REFUSING, "-o", library, "-ldl"], check=True)
         trials = [(words, Trial(library, folder, [program, *words.split()], text), is_front) for words, text in TEXTS.items()]
         trials.append(("a broken text in two files", named_trial(program, library, folder), is_front))
+        trials.append(("an answer to a question", answer_trial(program, library, folder), is_front))
         trials.append(("a book's day", Trial(library, folder, [trial, "day"], ""), goes_on))
         trials.append(("an office's calls", Trial(library, folder, [office_trial, "office"], ""), office_goes_on))
         trials.extend(archive_trials(program, library, folder))

@@ -16,7 +16,7 @@ escapes; its own line breaks stand for nothing. The parts are
   check   in place of stdout, where `solve` is free in its answer: the bytes with which the output
           must begin. All of it must have the form of an answer, and its schedule and prices, or its
           set, are put behind the question and given to `check best` or `check cut`, which must
-          answer with the same totals or excess
+          answer with the same totals or excess, and so must `check QUESTION ANSWER` of the whole
   pattern in place of stdout, where sessions run at once: the rows that are wanted, with * for a field that may hold
           anything
   script  in place of args, stdin and status: a bash script that runs the program as "$GASDAY", and
@@ -216,9 +216,9 @@ def set_faults(question, offered):
     return []
 
 
-def answer_faults(run_again, stdin, begins, got):
+def answer_faults(run_again, check_whole, stdin, begins, got):
     """What is wrong with an answer of `solve` that has to begin so; run_again runs the program on
-    words and a text."""
+    words and a text, and check_whole its check of a question and a whole answer."""
     if not got.startswith(begins):
         return differences(begins, got[:len(begins)])
     answer, question = rows_in(got), rows_in(stdin)
@@ -237,7 +237,10 @@ def answer_faults(run_again, stdin, begins, got):
     ended = stdin if stdin.endswith((b"\n", b"\r")) else stdin + b"\n"
     again, came = run_again(["check", kind], ended + written(offered))
     faults = [] if came == 0 else ["`check %s` ends with status %d" % (kind, came)]
-    return faults + differences(written(answer[:head]), again)
+    faults += differences(written(answer[:head]), again)
+    whole, came = check_whole(stdin, got)
+    faults += [] if came == 0 else ["`check QUESTION ANSWER` ends with status %d" % came]
+    return faults + differences(written(answer[:head]), whole)
 
 
 def told_faults(parts, told):
@@ -272,7 +275,13 @@ def faults_of(words, wrapper, parts):
 
         def run_again(args, text):
             return call(words + args, text, cwd=work)[:2]
-        return told + answer_faults(run_again, stdin, begins, got)
+
+        def check_whole(question, answer):
+            place = os.path.join(scratch, "answer.csv")
+            with open(place, "wb") as file:
+                file.write(answer)
+            return run_again(["check", "-", place], question)
+        return told + answer_faults(run_again, check_whole, stdin, begins, got)
 
 
 def run_case(words, wrapper, case):
