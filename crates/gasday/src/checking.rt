@@ -1,6 +1,6 @@
 //! The check of an answer to a question.
 
-ghost use Rattle.std.specs.Prelude.{◌≡◌};
+ghost use Rattle.std.specs.Prelude.{◌++◌, ◌≡◌};
 ghost use Rattle.gasday_part.specs.Output.{WritesTold};
 ghost use Rattle.gasday.specs.Carried.{TellsAnswer};
 
@@ -13,7 +13,9 @@ use std::io::Write;
 use std::thread::Threads;
 
 /// The bytes of a text's first file, and those behind it.
-pub(crate) fn first_and_rest<'t>(text: &'t Text<'_>) -> (&'t [u8], &'t [u8]) {
+pub(crate) fn first_and_rest<'t>(text: &'t Text<'_>) -> (&'t [u8], &'t [u8])
+    ensures { result.0.now ++ result.1.now ≡ text.now.bytes.items }
+{
     let bytes = text.bytes.as_slice();
     let end = match text.parts.get(1) {
         Some(part) => part.begin.min(bytes.len()),

@@ -232,9 +232,9 @@ always another schedule, other prices or another set, for instance those of solv
   NotCut              The set has no excess above 0.
 
 Of an answer its rows are checked first, and then its best row with the totals, or its cut row: what says
-another thing than the check, as a total or the excess, is BadField there, and an answer without such a
-row is Missing. Rows are counted over both files. A file that is called allowed, best or cut is named
-./best.
+another thing than the check, as a total or the excess, is BadField there, and so is a first row that is
+neither of the two; an empty answer is Missing. Rows are counted over both files. A file that is called
+allowed, best or cut is named ./best.
 
 Examples:
   gasday check allowed < examples/two-lines.csv

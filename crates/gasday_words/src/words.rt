@@ -58,7 +58,8 @@ fn request_by_clap<'a, S: AsStr>(alloc: Global, words: &'a [S]) -> Result<Reques
 ///
 /// `Help` and `Version` come where the words ask for them, and `Usage` where they are at fault: an unknown word or
 /// option, a word that is missing, one too many, one that is no cycle, round or number of seconds where it has to be,
-/// one behind `check` that names none and has not one text behind it, or two options that exclude each other. `OutOfMemory` can come at any words.
+/// one behind `check` that names none and has not one text behind it, or two options that exclude each other.
+/// `OutOfMemory` can come at any words.
 pub fn request_of<'a, S: AsStr>(alloc: Global, words: &'a [S]) -> Result<Request<'a>, UsageFault>
     // A request is what the words mean, and comes only where clap finds no fault in them.
     ensures meaning { IfOk result (λ o.
