@@ -6,7 +6,7 @@
 PROGRAM is the built `gasday`. It measures
 
 audit of 5     the postings of five largest questions (20,000 lines, branching, each with the best schedule and the prices that
-               `solve` gives), beside `check best` over each of the same texts
+               `solve` gives), also with `--all`, beside `check best` over each of the same texts
 audit of 1000  the postings of 1,000 small days, beside `check best` over each of the same texts
 keep           `day --archive` over a day of 20,000 lines and one over a day with five cycles of 2,000 lines, beside `day` over
                the same text and what CPython's sqlite3 takes to insert the same bodies into a file
@@ -83,11 +83,14 @@ def measure_audit(program, name, bodies, folder, runs):
     empty_archive(program, path)
     fill(path, bodies)
     seconds, peak, told = timed([program, "audit", path], folder, runs)
+    each, each_peak, each_told = timed([program, "audit", "--all", path], folder, runs)
     checks = [timed([program, "check", "best"], folder, runs, body) for _, _, body in bodies]
     size = sum(len(body) for _, _, body in bodies)
     print(f"audit of {name}: bodies {size / MEGABYTE:.1f} MB, {seconds:.2f} s, peak {peak / MEGABYTE:.1f} MB; "
+          f"with --all {each:.2f} s, peak {each_peak / MEGABYTE:.1f} MB; "
           f"check best {sum(it[0] for it in checks):.2f} s, peak {max(it[1] for it in checks) / MEGABYTE:.1f} MB", flush=True)
-    return told == b"audited,%d,,,,,,\n" % len(bodies) and all(it[2].startswith(b"best,") for it in checks)
+    is_sound = told == b"audited,%d,,,,,,\n" % len(bodies) and each_told.endswith(told) and each_told.count(b"sound,") == len(bodies)
+    return is_sound and all(it[2].startswith(b"best,") for it in checks)
 
 
 def measure_keep(program, name, folder, runs):

@@ -37,11 +37,16 @@ _gasday() {
             _gasday_files
             ;;
         question:3) _gasday_words '1 2 3 4 5 --help' ;;
-        audit:2 | text:2 | question:2 | carry:2 | migrate:2)
+        audit:*)
+            [ "$before" = --wait ] && return
+            _gasday_words '--all --wait --help'
+            _gasday_files
+            ;;
+        text:2 | question:2 | carry:2 | migrate:2)
             _gasday_words '--wait --help'
             _gasday_files
             ;;
-        audit:4 | text:4 | question:4 | carry:4 | migrate:4) [ "${COMP_WORDS[2]}" = --wait ] && _gasday_files ;;
+        text:4 | question:4 | carry:4 | migrate:4) [ "${COMP_WORDS[2]}" = --wait ] && _gasday_files ;;
         question:5) [ "${COMP_WORDS[2]}" = --wait ] && _gasday_words '1 2 3 4 5' ;;
         check:* | solve:* | calendar:* | office:*)
             _gasday_words '--help'

@@ -39,7 +39,7 @@ DOCUMENT = HOME / "docs" / "AUDIT.md"
 DEFINITIONS = HOME / "docs" / "DEFINITIONS.md"
 ANSWER, WRITE = ("gasday_part", "answer_of"), ("gasday_part", "write_answer")
 CHECK_ANSWER = ("gasday_part", "check_answer")
-ANSWER_ORDER, AUDIT_ARCHIVE = ("gasday_archive", "answer_to"), ("gasday_archive", "audit_archive")
+ARCHIVES = tuple(("gasday_archive", name) for name in ("answer_to", "audit_archive", "audit_postings"))
 ANSWER_OFFICE = ("gasday_office", "answer_office")
 LAWS_OF_BOOKS = ("book_is_day", "kept_book_is_day", "served_book_is_day")
 BOOKS = tuple(("gasday_live", name) for name in ("serve_book", "audit_book", "print_book", *LAWS_OF_BOOKS))
@@ -49,7 +49,7 @@ PATHS = {
     "b": ("Headline", (("gd_machine", "every_day_holds"),), ()),
     "c": ("Checks", (ANSWER, WRITE, CHECK_ANSWER), ("CheckBest", "CheckCut")),
     "d": ("Days", (ANSWER, WRITE), ("Day",)),
-    "e": ("Archives", (ANSWER_ORDER, AUDIT_ARCHIVE, WRITE), ()),
+    "e": ("Archives", (*ARCHIVES, WRITE), ()),
     "f": ("Offices", (ANSWER_OFFICE, WRITE), ()),
     "g": ("Books", BOOKS, ()),
     "h": ("Rounds", (("gasday_part", "ask_text"), ("gasday_live", "ask_book")), ()),

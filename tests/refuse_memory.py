@@ -367,6 +367,7 @@ def archive_trials(program, library, folder):
     kept, old = kept_archive(program, folder), old_archive(folder)
     yield "day --archive", FileTrial(library, folder, [program, "day", "--archive", FILE], KEPT_DAY, None), keeps_or_not
     yield "audit", FileTrial(library, folder, [program, "audit", FILE], "", kept), audits_or_not
+    yield "audit --all", FileTrial(library, folder, [program, "audit", "--all", FILE], "", kept), reads_or_not
     yield "migrate", FileTrial(library, folder, [program, "migrate", FILE], "", old), migrates_or_not
 
 

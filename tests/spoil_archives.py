@@ -7,7 +7,7 @@ copied into the file, and two processes on one file at once.
 
 Each answer has to be one that fits: what `audit` counts as sound is what `check best` passes of the kept bodies, worked out
 here with Python's own sqlite3; else one row tells that it is no archive, of an old version, or which row is damaged or unsound,
-with the status that goes with it, and the file is as before. The last line is 'N passed, M failed', and the exit status is 0
+with the status that goes with it, and the file is as before. What `audit --all` tells has to fit that row. The last line is 'N passed, M failed', and the exit status is 0
 only where none failed.
 """
 
@@ -19,6 +19,7 @@ import subprocess
 import sys
 import tempfile
 from concurrent.futures import ThreadPoolExecutor
+from hashlib import sha256
 from pathlib import Path
 
 DAY = b"""\
@@ -115,13 +116,32 @@ def is_answer(got):
     return got in (STORE, OLD_VERSION) or (status == 1 and UNSOUND.fullmatch(rows)) or (status == 0 and AUDITED.fullmatch(rows))
 
 
+def fits(got, each):
+    """Whether what `audit --all` tells fits what `audit` does: the same fault, or a row of each posting, of which the sound ones are
+    counted. `audit` tells the first unsound one of these, where bumped lines are not looked at, or counts them all."""
+    (row, status), (rows, each_status) = got, each
+    if status == 2 or not rows:
+        return each == got
+    *told, last = rows.splitlines(keepends=True)
+    sound = [it for it in told if it.startswith(b"sound,")]
+    bumped = [it for it in told if re.fullmatch(rb"unsound,[A-Z0-9-]+,[1-5],Bumped,,,,\n", it)]
+    unsound = [it for it in told if UNSOUND.fullmatch(it) and it not in bumped]
+    unchecked = [it for it in told if re.fullmatch(rb"unchecked,[A-Z0-9-]+,[1-5],Bumped,,,,\n", it)]
+    if len(sound) + len(bumped) + len(unsound) + len(unchecked) != len(told) or last != b"audited,%d,,,,,,\n" % len(sound):
+        return False
+    if each_status != (1 if bumped or unsound else 0):
+        return False
+    return unsound[:1] == [row] if status else not unsound and row == b"audited,%d,,,,,,\n" % (len(sound) + len(bumped))
+
+
 def cut_off(archives, whole):
     """The file is shorter: it is no archive, or is told unsound, and nothing is written to it."""
     for length in range(0, len(whole), 512):
         path = archives.folder / f"cut-{length}.db"
         path.write_bytes(whole[:length])
-        got = archives.run("audit", path)
+        got, each = archives.run("audit", path), archives.run("audit", "--all", path)
         archives.note(f"audit of {length} bytes: {got}", is_answer(got) and got[1] != 0 and path.read_bytes() == whole[:length])
+        archives.note(f"audit --all of {length} bytes: {each}", fits(got, each))
         got = archives.run("migrate", path)
         archives.note(f"migrate of {length} bytes: {got}", got[1] != 0 and path.read_bytes() == whole[:length])
 
@@ -131,12 +151,13 @@ def spoiled(archives, whole):
     def trial(at):
         path = archives.folder / f"spoiled-{at}.db"
         path.write_bytes(whole[:at] + bytes([whole[at] ^ 1]) + whole[at + 1 :])
-        got = archives.run("audit", path)
+        got, each = archives.run("audit", path), archives.run("audit", "--all", path)
         path.unlink()
-        return at, got
+        return at, got, each
     with ThreadPoolExecutor(os.cpu_count() or 2) as pool:
-        for at, got in pool.map(trial, range(0, len(whole), 7)):
+        for at, got, each in pool.map(trial, range(0, len(whole), 7)):
             archives.note(f"audit with byte {at} changed: {got}", is_answer(got))
+            archives.note(f"audit --all with byte {at} changed: {each}", fits(got, each))
 
 
 def other_bodies(archives, whole):
@@ -144,7 +165,7 @@ def other_bodies(archives, whole):
     path = archives.folder / "whole.db"
     path.write_bytes(whole)
     reader = sqlite3.connect(path)
-    (body,) = reader.execute("SELECT body FROM posting2 WHERE cycle = 2").fetchone()
+    (first,), (body,) = reader.execute("SELECT body FROM posting2 ORDER BY cycle").fetchall()
     reader.close()
 
     def trial(at):
@@ -152,13 +173,17 @@ def other_bodies(archives, whole):
         name = f"body-{at}.db"
         path = archives.changed(whole, name, [("UPDATE posting2 SET body = ? WHERE cycle = 2", (other,))])
         before = path.read_bytes()
-        got = archives.run("audit", path)
+        got, each = archives.run("audit", path), archives.run("audit", "--all", path)
         is_bumped = b"\nbumped," in other[: at + 1]
         want = got[1] in (0, 1) if is_bumped else got[1] == (0 if archives.is_sound(other, 2) else 1)
-        return at, got, want and is_answer(got) and got not in (STORE, OLD_VERSION) and path.read_bytes() == before
+        is_right = want and is_answer(got) and got not in (STORE, OLD_VERSION) and path.read_bytes() == before
+        sums = [sha256(it).hexdigest().encode() + b"\n" for it in (first, other)]
+        has_sums = all(it.endswith(sums[int(it.split(b",")[2]) - 1]) for it in each[0].splitlines(keepends=True) if it.startswith(b"sound,"))
+        return at, got, is_right, each, fits(got, each) and has_sums
     with ThreadPoolExecutor(os.cpu_count() or 2) as pool:
-        for at, got, is_right in pool.map(trial, range(len(body))):
+        for at, got, is_right, each, has_each in pool.map(trial, range(len(body))):
             archives.note(f"audit with byte {at} of a body changed: {got}", is_right)
+            archives.note(f"audit --all with byte {at} of a body changed: {each}", has_each)
 
 
 def other_tables(archives, whole, rows):
@@ -177,9 +202,10 @@ def other_tables(archives, whole, rows):
             archives.note(f"{' '.join(words)} after {statement}: {got}", got == want and path.read_bytes() == before)
     for at, (statement, row) in enumerate(ROWS):
         path = archives.changed(whole, f"rows-{at}.db", [(statement, ())])
-        got = archives.run("audit", path)
+        got, each = archives.run("audit", path), archives.run("audit", "--all", path)
         want = (b"audited,2,,,,,,\n", 0) if row is None else (row, 1)
         archives.note(f"audit after {statement}: {got}", got == want)
+        archives.note(f"audit --all after {statement}: {each}", fits(got, each))
 
 
 def not_writable(archives, whole):

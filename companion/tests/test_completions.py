@@ -51,8 +51,16 @@ class Completing(unittest.TestCase):
         self.assertEqual(self.offers("day", "--archive", "other.db", "t"), ["text.csv"])
         self.assertEqual(self.offers("day", "--book", "other.db", "--wait", ""), [])
 
-    def test_the_file_of_audit_text_carry_and_migrate(self) -> None:
-        for command in ("audit", "text", "carry", "migrate"):
+    def test_the_file_of_an_audit(self) -> None:
+        self.assertEqual(self.offers("audit", ""), ["--all", "--help", "--wait", *FILES])
+        self.assertEqual(self.offers("audit", "--"), ["--all", "--help", "--wait"])
+        self.assertEqual(self.offers("audit", "o"), ["other.db"])
+        self.assertEqual(self.offers("audit", "--all", "o"), ["other.db"])
+        self.assertEqual(self.offers("audit", "--all", "--wait", ""), [])
+        self.assertEqual(self.offers("audit", "--wait", "60", "o"), ["other.db"])
+
+    def test_the_file_of_text_carry_and_migrate(self) -> None:
+        for command in ("text", "carry", "migrate"):
             self.assertEqual(self.offers(command, ""), ["--help", "--wait", *FILES])
             self.assertEqual(self.offers(command, "o"), ["other.db"])
             self.assertEqual(self.offers(command, "--"), ["--help", "--wait"])

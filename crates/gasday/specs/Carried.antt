@@ -1,9 +1,9 @@
 -- What an order is answered, the office among them, and what is written of it.
-use Rattle.std.specs.Prelude.{◌≡◌, ◌⊎◌, ⊤, ℕ, List, Option, None, Result, Err}
+use Rattle.std.specs.Prelude.{◌≡◌, ◌⊎◌, ⊤, ℕ, true, false, List, Option, None, Result, Err}
 use Rattle.sqlite_trees.specs.declared.store.Store.{Ghosts}
 use Rattle.sqlite.specs.Held.{Held}
 use Rattle.sqlite.specs.declared.error.Error.{Error}
-use Rattle.gasday_words.specs.Ordered.{Ordered, Text, ArchivedDay, Audit, LiveDay, Migrate}
+use Rattle.gasday_words.specs.Ordered.{Ordered, Text, ArchivedDay, Audit, AuditEach, LiveDay, Migrate}
 use Rattle.gasday_words.specs.declared.order.Command.TheVariants as command
 use Rattle.gasday_part.specs.Answers.{Told, no_memory, one}
 use Rattle.gasday_part.specs.Output.{WritesTold}
@@ -20,13 +20,15 @@ AnswersSlots text left a = (left ≡ None) × AnswersOfficeBytes text a
 -- an order that is carried out over the bytes of one text or of none
 abbrev pub IsCarriedOut : Ordered → Type 0
 IsCarriedOut (Audit file) = ⊤
+IsCarriedOut (AuditEach file) = ⊤
 IsCarriedOut order = IsAnswered order
 
 -- What an order is answered: of an office what its text is answered, or that memory ran out before; of an audit, which reads none,
 -- what is told of the file that the opener gives; of each other order what that is.
 abbrev pub AnswersOrder : {S : Type 0} → Ghosts S → (Result (Held S) Error → Type 0) → Ordered → List ℕ → Option (Held S) → Told → Type 0
 AnswersOrder g gives (Text command.Office) text left a = OrNoMemory (AnswersSlots text) left a
-AnswersOrder g gives (Audit file) text left a = TellsOpened g gives (TellsAudit g) left a
+AnswersOrder g gives (Audit file) text left a = TellsOpened g gives (TellsAudit g false) left a
+AnswersOrder g gives (AuditEach file) text left a = TellsOpened g gives (TellsAudit g true) left a
 AnswersOrder g gives order text left a = Answers g gives order text left a
 
 -- What is written of an order over these bytes, and the exit status: what it is answered, and nothing else.

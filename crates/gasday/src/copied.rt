@@ -31,6 +31,7 @@ fn may_not_be_written(rt: &HostRuntime, name: &str) -> bool {
 /// The database that an order only reads, where it may not be written.
 pub(crate) fn unwritable<'a>(rt: &HostRuntime, order: Order<'a>) -> Option<&'a str> {
     let (Order::Audit(file)
+    | Order::AuditEach(file)
     | Order::BookText(file)
     | Order::Question { file, .. }
     | Order::Carry(file)) = order

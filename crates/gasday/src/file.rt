@@ -45,6 +45,7 @@ impl<'a> NamedFile<'a> {
                 None,
             Order::ArchivedDay(file) | Order::LiveDay(file) => Some(file),
             Order::Audit(file)
+            | Order::AuditEach(file)
             | Order::Migrate(file)
             | Order::BookText(file)
             | Order::Question { file, .. }

@@ -89,7 +89,8 @@ fn answered<T: Threads + Wait + Clock + Sync, S: Alter + Drop, O: Opener<S>>(
 {
     match order {
         Order::Text(Command::Office) => answer_slots(threads, alloc, text),
-        Order::Audit(_) => tell_audit(threads, alloc, opener.open()),
+        Order::Audit(_) => tell_audit(threads, alloc, opener.open(), false),
+        Order::AuditEach(_) => tell_audit(threads, alloc, opener.open(), true),
         order => answer_to(threads, alloc, order, text, opener),
     }
 }
@@ -374,7 +375,7 @@ fn refuse<'a, S: Alter + Drop>(
 /// The text of a request. Who audits or migrates an archive reads none.
 fn text_of<'a>(rt: &HostRuntime, request: &Request<'a>) -> Result<Text<'a>, Unread<'a>> {
     match request.order {
-        Order::Audit(_) | Order::Migrate(_) => Ok(Text::empty(rt)),
+        Order::Audit(_) | Order::AuditEach(_) | Order::Migrate(_) => Ok(Text::empty(rt)),
         _ if request.texts.is_empty() => {
             tell_waiting(rt);
             Text::of_input(rt)

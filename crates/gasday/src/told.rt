@@ -81,7 +81,11 @@ fn form_of(order: Order<'_>) -> Option<Form> {
         Order::Text(Command::Day) | Order::ArchivedDay(_) | Order::LiveDay(_) => Some(Form::Day),
         Order::Text(Command::Office) => Some(Form::Office),
         Order::Question { .. } | Order::Carry(_) => Some(Form::Day),
-        Order::CheckAnswer | Order::Audit(_) | Order::Migrate(_) | Order::BookText(_) => None,
+        Order::CheckAnswer
+        | Order::Audit(_)
+        | Order::AuditEach(_)
+        | Order::Migrate(_)
+        | Order::BookText(_) => None,
     }
 }
 

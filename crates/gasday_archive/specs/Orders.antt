@@ -3,7 +3,7 @@ use Rattle.std.specs.Prelude.{◌≡◌, ⊤, ℕ, List, Option, None, Result}
 use Rattle.sqlite_trees.specs.declared.store.Store.{Ghosts}
 use Rattle.sqlite.specs.Held.{Held}
 use Rattle.sqlite.specs.declared.error.Error.{Error}
-use Rattle.gasday_words.specs.Ordered.{Ordered, Text, ArchivedDay, Audit, BookText, Carry, CheckAnswer, LiveDay, Migrate, Question}
+use Rattle.gasday_words.specs.Ordered.{Ordered, Text, ArchivedDay, Audit, AuditEach, BookText, Carry, CheckAnswer, LiveDay, Migrate, Question}
 use Rattle.gasday_words.specs.declared.order.Command.{Command}
 use Rattle.gasday_part.specs.Answers.{Told, AnswersBytes}
 use Rattle.gasday_archive.specs.Runs.{TellsMigration, TellsOpened, TellsBytes, OrNoMemory}
@@ -17,6 +17,7 @@ AnswersCommand command text left a = (left ≡ None) × AnswersBytes command tex
 abbrev pub IsAnswered : Ordered → Type 0
 IsAnswered CheckAnswer = ⊥
 IsAnswered (Audit file) = ⊥
+IsAnswered (AuditEach file) = ⊥
 IsAnswered (LiveDay file) = ⊥
 IsAnswered (BookText file) = ⊥
 IsAnswered (Question file cycle round) = ⊥
@@ -31,6 +32,7 @@ Answers g gives (ArchivedDay file) text left a = OrNoMemory (TellsBytes g gives 
 Answers g gives (Migrate file) text left a = TellsOpened g gives (TellsMigration g) left a
 Answers g gives CheckAnswer text left a = ⊥
 Answers g gives (Audit file) text left a = ⊥
+Answers g gives (AuditEach file) text left a = ⊥
 Answers g gives (LiveDay file) text left a = ⊥
 Answers g gives (BookText file) text left a = ⊥
 Answers g gives (Question file cycle round) text left a = ⊥

@@ -6,6 +6,7 @@ use Rattle.sqlite.specs.State.{HasCleanDisk}
 use Rattle.sqlite.specs.declared.error.Error.{Error}
 use Rattle.gd_archive.specs.Calls as archive
 use Rattle.gd_archive.specs.declared.fault.AuditFault.{AuditFault}
+use Rattle.gd_archive.specs.declared.finding.Finding.{Finding}
 use Rattle.gd_archive_store.specs.Calls.{Makes}
 use Rattle.gd_archive_store.specs.declared.fault.StoreFault.{StoreFault}
 use Rattle.gd_archive_store.specs.declared.fault.MigrateFault.{MigrateFault}
@@ -28,7 +29,7 @@ use Rattle.gasday_part.specs.Answers.{Told, one, refused, fault_answer, no_memor
 use Rattle.gasday_part.specs.declared.answer.Answer.{Answer}
 use Rattle.gasday_part.specs.declared.day.DayFault.{DayFault}
 use Rattle.gasday_part.specs.declared.day.DayFault.TheVariants as no
-use Rattle.gasday_archive.specs.Archives.{no_store, audited, migrated, make_fault}
+use Rattle.gasday_archive.specs.Archives.{no_store, audited, each_told, migrated, store_fault}
 use Rattle.gasday_archive.specs.Keeping.{KeepAnswer, KeepsPublished, all_keep_rows, keep_status}
 
 -- ---- an archive that is open
@@ -38,6 +39,12 @@ module _ {S : Type 0} (g : Ghosts S) where
   abbrev pub TellsAudit : Held S → Held S → Told → Type 0
   TellsAudit old new a =
       (found : Result ℕ AuditFault) × archive.Audits (state g old) (state g new) found × (a ≡ audited found)
+
+  -- what is found of each of its postings is told, or why it can't be read
+  abbrev pub TellsEach : Held S → Held S → Told → Type 0
+  TellsEach old new a =
+      ((findings : List Finding) × archive.AuditsEach (state g old) (state g new) findings × (a ≡ each_told findings))
+      ⊎ ((f : StoreFault) × archive.AuditsNone (state g old) (state g new) f × (a ≡ store_fault f))
 
   -- it is migrated, and that is told
   abbrev pub TellsMigration : Held S → Held S → Told → Type 0
@@ -69,7 +76,7 @@ module _ {S : Type 0} (g : Ghosts S) where
   abbrev pub TellsMade : Day → List Call → Held S → Held S → Told → Type 0
   TellsMade day calls old new a =
       ((made : Held S) × Makes (state g old) (state g made) (Ok tt) × TellsKept day calls made new a)
-      ⊎ ((f : StoreFault) × Makes (state g old) (state g new) (Err f) × (a ≡ make_fault f))
+      ⊎ ((f : StoreFault) × Makes (state g old) (state g new) (Err f) × (a ≡ store_fault f))
 
   -- ---- an archive that the opener gives
 

@@ -10,7 +10,7 @@ ghost use Rattle.gasday_part.specs.AnswerSeen.{answer_seen};
 ghost use Rattle.gasday_part.specs.Answers.{no_memory};
 ghost use Rattle.gasday_archive.specs.Runs as spec;
 
-use crate::answer::of_unmade;
+use crate::answer::of_store_fault;
 use crate::keeps::keep_published;
 use gasday_part::Answer;
 use gd_archive::make;
@@ -88,6 +88,6 @@ pub(crate) fn tell_in_archive<S: Alter>(
 {
     match make(conn) {
         Ok(()) => Ok(tell_calls(rt, alloc, conn, book, rows)),
-        Err(fault) => of_unmade(alloc, fault),
+        Err(fault) => of_store_fault(alloc, fault),
     }
 }

@@ -51,6 +51,7 @@ pub fn answer_to<S: Alter + Drop, O: Opener<S>>(
         Order::Migrate(_) => tell_migration(alloc, opener.open()),
         Order::CheckAnswer
         | Order::Audit(_)
+        | Order::AuditEach(_)
         | Order::LiveDay(_)
         | Order::BookText(_)
         | Order::Question { .. }

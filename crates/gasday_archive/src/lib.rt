@@ -9,4 +9,4 @@ mod opened;
 
 pub use answer::of_no_store;
 pub use engine::answer_to;
-pub use opened::{Opener, Outcome, audit_archive};
+pub use opened::{Opener, Outcome, audit_archive, audit_postings};

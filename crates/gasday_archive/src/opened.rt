@@ -8,10 +8,10 @@ ghost use Rattle.gd_day.specs.Groups.{AllPass};
 ghost use Rattle.gd_day.specs.Opening.{opened_of};
 ghost use Rattle.gasday_archive.specs.Runs as spec;
 
-use crate::answer::{of_audit, of_migration, of_no_store};
+use crate::answer::{of_audit, of_each, of_migration, of_no_store, of_store_fault};
 use crate::day::tell_in_archive;
 use gasday_part::{Answer, calendar_of, of_fault, of_no_calendar};
-use gd_archive::{audit, migrate};
+use gd_archive::{audit, audit_each, migrate};
 use gd_book::Book;
 use gd_day::{DayText, day_text_of};
 use gd_text_part::{Form, Row, rows_in};
@@ -64,6 +64,21 @@ pub fn audit_archive<S: Alter>(
 {
     let found = audit(conn, alloc);
     of_audit(alloc, &found)
+}
+
+/// Audits each posting of an archive that is open: what is found of each, and how many are sound, or why it can't be read. The only
+/// error is want of memory.
+pub fn audit_postings<S: Alter>(
+    alloc: Global,
+    conn: &mut Connection<S>,
+) -> Result<Answer, AllocError>
+    ensures { spec.Tells (λ a. HasCleanDisk (state S.Store conn.new)
+        → spec.TellsEach S.Store conn.old conn.new a) result }
+{
+    match audit_each(conn, alloc) {
+        Ok(findings) => of_each(alloc, findings.as_slice()),
+        Err(fault) => of_store_fault(alloc, fault),
+    }
 }
 
 /// Migrates what was opened.

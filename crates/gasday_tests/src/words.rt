@@ -109,6 +109,7 @@ fn order_name(order: Order<'_>) -> &'static str {
         } => "question",
         Order::Carry("a.db") => "carry",
         Order::Audit("a.db") => "audit",
+        Order::AuditEach("a.db") => "audit of each",
         Order::Migrate("a.db") => "migrate",
         _ => "another file",
     }

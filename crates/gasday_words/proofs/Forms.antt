@@ -287,7 +287,8 @@ takes_files words r by a rest other =
     (All-cons P _ (drop 9 (forms_with file)) (λ h. is (codes "question") spec.question question (F ∷ known (codes "5") ∷ []) refl h (without_texts (ordered.Question file 5 None)) refl)
     (All-cons P _ (drop 10 (forms_with file)) (λ h. is (codes "carry") spec.carry carry (F ∷ []) refl h (without_texts (ordered.Carry file)) refl)
     (All-cons P _ (drop 11 (forms_with file)) (λ h. is (codes "migrate") spec.migrate migrate (F ∷ []) refl h (without_texts (ordered.Migrate file)) refl)
-    (All-nil P)))))))))))
+    (All-cons P _ (drop 12 (forms_with file)) (λ h. is (codes "audit") spec.audit audit (known (codes "--all") ∷ F ∷ []) refl h (without_texts (ordered.AuditEach file)) refl)
+    (All-nil P))))))))))))
 
 -- words of each form of a gas day that names a file, with the names of one or two files behind them, are answered by its order
 -- over these files
@@ -383,7 +384,8 @@ takes_waits words r by a c rest word other another =
           (All-cons P _ (drop 9 all) (λ h. is (codes "question") spec.question question (F ∷ known (codes "5") ∷ W ∷ N ∷ []) refl h (waiting (ordered.Question file 5 None) n) (so (ordered.Question file 5 None)))
           (All-cons P _ (drop 10 all) (λ h. is (codes "carry") spec.carry carry (F ∷ W ∷ N ∷ []) refl h (waiting (ordered.Carry file) n) (so (ordered.Carry file)))
           (All-cons P _ (drop 11 all) (λ h. is (codes "migrate") spec.migrate migrate (F ∷ W ∷ N ∷ []) refl h (waiting (ordered.Migrate file) n) (so (ordered.Migrate file)))
-          (All-nil P)))))))))))),
+          (All-cons P _ (drop 12 all) (λ h. is (codes "audit") spec.audit audit (known (codes "--all") ∷ F ∷ W ∷ N ∷ []) refl h (waiting (ordered.AuditEach file) n) (so (ordered.AuditEach file)))
+          (All-nil P))))))))))))),
       λ none.
           let so = λ (o : Ordered). ap (waiting_so o) none in
           All-cons Q _ (drop 1 all) (λ h. no (codes "day") spec.day day (known (codes "--archive") ∷ F ∷ W ∷ V ∷ []) refl h refl (so (ordered.ArchivedDay file)))
@@ -397,7 +399,8 @@ takes_waits words r by a c rest word other another =
           (All-cons Q _ (drop 9 all) (λ h. no (codes "question") spec.question question (F ∷ known (codes "5") ∷ W ∷ V ∷ []) refl h refl (so (ordered.Question file 5 None)))
           (All-cons Q _ (drop 10 all) (λ h. no (codes "carry") spec.carry carry (F ∷ W ∷ V ∷ []) refl h refl (so (ordered.Carry file)))
           (All-cons Q _ (drop 11 all) (λ h. no (codes "migrate") spec.migrate migrate (F ∷ W ∷ V ∷ []) refl h refl (so (ordered.Migrate file)))
-          (All-nil Q))))))))))),
+          (All-cons Q _ (drop 12 all) (λ h. no (codes "audit") spec.audit audit (known (codes "--all") ∷ F ∷ W ∷ V ∷ []) refl h refl (so (ordered.AuditEach file)))
+          (All-nil Q)))))))))))),
     )
 
 -- words of each form that names two files for one gas day are answered by a usage fault

@@ -9,7 +9,7 @@ use Rattle.gasday_words.specs.Ordered.{Ordered, Requested, without_texts}
 use Rattle.clap.specs.Lexer.{usize_max}
 use Rattle.clap.specs.ValueTests.{is_unsigned_in}
 use Rattle.clap.specs.Words.{App, Row, Rule, Text, all_of, first_of, new_app, new_rule, subcommand_of, with_rule, with_subcommand}
-use Rattle.clap.specs.declared.builder.action.ArgAction.TheVariants.{Append}
+use Rattle.clap.specs.declared.builder.action.ArgAction.TheVariants.{Append, SetTrue}
 
 -- ---- the command line
 
@@ -49,6 +49,10 @@ book = record (new_rule (codes "book")) { value_names = 1; long = Some (codes "b
 abbrev pub wait : Rule
 wait = record (new_rule (codes "wait")) { value_names = 1; long = Some (codes "wait") }
 
+-- `--all`, which may be left out
+abbrev pub all : Rule
+all = record (new_rule (codes "all")) { action = Some SetTrue; long = Some (codes "all") }
+
 -- `check WHAT [TEXT]..`
 abbrev pub check : App
 check = with_rule (with_rule (new_app (codes "check")) what) texts
@@ -69,9 +73,9 @@ day = with_rule (with_rule (with_rule (with_rule (new_app (codes "day")) archive
 abbrev pub office : App
 office = with_rule (new_app (codes "office")) texts
 
--- `audit [--wait SECONDS] FILE`
+-- `audit [--all] [--wait SECONDS] FILE`
 abbrev pub audit : App
-audit = with_rule (with_rule (new_app (codes "audit")) wait) file
+audit = with_rule (with_rule (with_rule (new_app (codes "audit")) all) wait) file
 
 -- `text [--wait SECONDS] FILE`
 abbrev pub book_text : App
@@ -139,6 +143,11 @@ day_kept_in (Some name) None = Some (ordered.ArchivedDay name)
 day_kept_in None (Some name) = Some (ordered.LiveDay name)
 day_kept_in (Some name) (Some other) = None
 
+-- the audit of a file, and of each posting where `--all` is given
+abbrev pub audit_order : Option Text → Text → Ordered
+audit_order None file = ordered.Audit file
+audit_order (Some word) file = if bytes_eq word (codes "true") then ordered.AuditEach file else ordered.Audit file
+
 -- the cycle that a word names
 abbrev pub cycle_named : Text → Option ℕ
 cycle_named word =
@@ -180,7 +189,7 @@ order_from name given =
     else if bytes_eq name (codes "calendar") then Some (ordered.Text Calendar)
     else if bytes_eq name (codes "day") then day_kept_in (first_of (codes "archive") given) (first_of (codes "book") given)
     else if bytes_eq name (codes "office") then Some (ordered.Text Office)
-    else if bytes_eq name (codes "audit") then option_map ordered.Audit (first_of (codes "file") given)
+    else if bytes_eq name (codes "audit") then option_map (audit_order (first_of (codes "all") given)) (first_of (codes "file") given)
     else if bytes_eq name (codes "text") then option_map ordered.BookText (first_of (codes "file") given)
     else if bytes_eq name (codes "question") then question_in given
     else if bytes_eq name (codes "carry") then option_map ordered.Carry (first_of (codes "file") given)
@@ -243,6 +252,7 @@ forms_with file =
     ∷ (codes "question" ∷ file ∷ codes "5" ∷ [], ordered.Question file 5 None)
     ∷ (codes "carry" ∷ file ∷ [], ordered.Carry file)
     ∷ (codes "migrate" ∷ file ∷ [], ordered.Migrate file)
+    ∷ (codes "audit" ∷ codes "--all" ∷ file ∷ [], ordered.AuditEach file)
     ∷ []
 
 -- the words that name cycles, and the cycles

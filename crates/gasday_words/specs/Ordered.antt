@@ -14,6 +14,7 @@ pub data Ordered : Type 0 where
   LiveDay : List ℕ → Ordered
   BookText : List ℕ → Ordered
   Audit : List ℕ → Ordered
+  AuditEach : List ℕ → Ordered
   -- with its cycle, and its round where one is named
   Question : List ℕ → ℕ → Option ℕ → Ordered
   Carry : List ℕ → Ordered
@@ -27,6 +28,7 @@ seen (order.ArchivedDay file) = ArchivedDay file.now
 seen (order.LiveDay file) = LiveDay file.now
 seen (order.BookText file) = BookText file.now
 seen (order.Audit file) = Audit file.now
+seen (order.AuditEach file) = AuditEach file.now
 seen (order.Question file cycle round) = Question file.now cycle round
 seen (order.Carry file) = Carry file.now
 seen (order.Migrate file) = Migrate file.now

@@ -450,6 +450,17 @@ and else the first that fails, by book and cycle:
 NAME is Damaged (no posting, or another one's), or what its check finds broken, as
 'gasday check --help' tells. Take the file from a copy, or look at the row with sqlite3.
 
+With --all it tells of each posting, by book and cycle. An unsound one is told as above, a sound one by
+  sound,BOOK,CYCLE,ROUND,RULE,LINES,QUANTITY,SUM
+ROUND and LINES are those of its question, QUANTITY is what its schedule gives all lines together, and SUM
+is the SHA-256 of the body that the archive keeps, in 64 hexadecimal digits. RULE is 2, and 1 where the
+posting is from an archive of version 1: best by class totals, without the spread. NAME is also Bumped:
+its bumped rows tell other quantities than its schedule takes from that of the posting of the cycle
+before. Where the archive has none of that cycle, they are compared with nothing, and behind it stands
+  unchecked,BOOK,CYCLE,Bumped
+Behind them all audited,COUNT counts the sound ones. The status is 1 where one is not sound. Of a book's
+file --all tells no more.
+
 Of the file of a book that day --book serves it makes all calls again, and compares each reply with
 what was told. Where they are the same it prints, with status 0,
   replayed,BOOK,CALLS,EVENTS,PUBLISHED
@@ -464,6 +475,7 @@ It reads nothing from standard input.
 
 Examples:
   gasday audit postings.db
+  gasday audit --all postings.db
   gasday audit 0308.book";
 
 /// What stands under the help of `text`.

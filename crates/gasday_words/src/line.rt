@@ -229,12 +229,25 @@ fn file<'a>(alloc: Global, about: &'a str) -> Arg<'a>
         .help(about)
 }
 
+const HELP_OF_ALL: &str = "tell of each posting of an archive, whether it is sound";
+
+/// `--all`, which may be left out. It gives the word `true` or `false`.
+fn all<'a>(alloc: Global) -> Arg<'a>
+    ensures rule { rule_of result ≡ spec.all }
+    ensures local { result.global ≡ false }
+{
+    Arg::new(alloc, "all")
+        .long("all")
+        .action(ArgAction::SetTrue)
+        .help(HELP_OF_ALL)
+}
+
 const ABOUT_AUDIT: &str =
     "Checks each posting of an archive against its own question, or makes all calls of a book's file again";
 
 const FILE_OF_AUDIT: &str = "the archive or the book's file, a SQLite database";
 
-/// `audit [--wait SECONDS] FILE`.
+/// `audit [--all] [--wait SECONDS] FILE`.
 fn audit<'a>(alloc: Global) -> Result<CommandLine<'a>, AllocError>
     ensures app { IfOk result (λ c. app_of c ≡ spec.audit) }
     ensures local { IfOk result (λ c. (out-Command c).has_globals ≡ false) }
@@ -246,6 +259,7 @@ fn audit<'a>(alloc: Global) -> Result<CommandLine<'a>, AllocError>
         help::SHORT_OF_AUDIT,
         help::LONG_OF_AUDIT,
     )
+    .arg(all(alloc))?
     .arg(wait(alloc))?
     .arg(file(alloc, FILE_OF_AUDIT))
 }

@@ -43,6 +43,8 @@ pub enum Order<'a> {
     BookText(&'a str),
     /// `audit FILE`: checks each posting of an archive, or makes all calls of a book's file again.
     Audit(&'a str),
+    /// `audit --all FILE`: as `audit`, and each posting of an archive is told, sound or not.
+    AuditEach(&'a str),
     /// `question FILE CYCLE [ROUND]`: prints the question that a gas day's book was frozen with in a round of a cycle, the last one
     /// where no round is named, and what came of it.
     Question {
@@ -91,13 +93,15 @@ fn check_of<'a>(word: Option<&str>, texts: usize) -> Option<Order<'a>>
     }
 }
 
-/// The order that checks this archive or this book's file.
-fn audit_of<'a>(file: Option<&'a str>) -> Option<Order<'a>>
-    ensures { option_map seen result ≡ option_map ordered.Audit (option_map (λ f. f.now) file.entry) }
+/// The order that checks this archive or this book's file, and tells of each posting where `all` is given.
+fn audit_of<'a>(file: Option<&'a str>, all: Option<&str>) -> Option<Order<'a>>
+    ensures { option_map seen result ≡ option_map (spec.audit_order (option_map (λ w. w.now) all.entry))
+        (option_map (λ f. f.now) file.entry) }
 {
-    match file {
-        Some(file) => Some(Order::Audit(file)),
-        None => None,
+    let file = file?;
+    match all {
+        Some("true") => Some(Order::AuditEach(file)),
+        _ => Some(Order::Audit(file)),
     }
 }
 
@@ -220,7 +224,7 @@ fn order_from<'a>(name: &str, given: &ArgMatches<'a>) -> Option<Order<'a>>
         "calendar" => Some(Order::Text(Command::Calendar)),
         "day" => day_kept_in(word_given(given, "archive"), word_given(given, "book")),
         "office" => Some(Order::Text(Command::Office)),
-        "audit" => audit_of(word_given(given, "file")),
+        "audit" => audit_of(word_given(given, "file"), word_given(given, "all")),
         "text" => book_text_of(word_given(given, "file")),
         "question" => question_of(
             word_given(given, "file"),

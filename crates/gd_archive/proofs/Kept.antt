@@ -1,5 +1,5 @@
 -- What a row keeps, where its book, cycle, round and body are known.
-use Rattle.std.proofs.Common.{◌≡◌, ◌≢◌, ℕ, Bool, false, true, ◌&&◌, List, Option, Some, None, refl, sym, ap, subst, ◌∙◌, if◌then◌else◌}
+use Rattle.std.proofs.Common.{◌≡◌, ℕ, Bool, false, true, ◌&&◌, List, Option, Some, None, refl, sym, ap, subst, ◌∙◌, if◌then◌else◌}
 use Rattle.std.proofs.lemmas.Option.{same_Some}
 use Rattle.sqlite.specs.Cast.{cast}
 use Rattle.sqlite.specs.Kind.TheVariants.{Integer}
@@ -13,9 +13,8 @@ use Rattle.gd_body.specs.Spread.{without_spread}
 use Rattle.gd_archive_store.specs.Migration.{carried}
 use Rattle.gd_archive_store.proofs.Inserting.{cast_int}
 use Rattle.gd_archive.specs.Calls.{rewritten, rewritten_to, IsCarried}
-use Rattle.gd_certificate.specs.declared.CertFault.{CertFault}
-use Rattle.gd_certificate.specs.declared.CertFault.TheVariants as cert
-use Rattle.gd_archive.specs.Soundness.{Blames, ExplainsBy, uncertified, IsBook, IsCycle, IsLabel, IsSound, Passes, posting_of, posting_of_body, posting_at, where_of, is_of, is_number, text_of, count_of}
+use Rattle.gd_archive.specs.declared.sound.Verdict.TheVariants as verdict
+use Rattle.gd_archive.specs.Soundness.{IsBook, IsCycle, IsSound, IsVerdict, posting_of, posting_of_body, posting_at, where_of, is_of, is_number, text_of, count_of}
 use Rattle.gd_archive.specs.declared.row.Label.{Label}
 
 -- a posting of another book, cycle or round is none of this row
@@ -33,25 +32,15 @@ at_row row book cycle round body o b c r v found =
     ∙ ap (λ (x : Value). posting_at book cycle round x) (sym v)
     ∙ found
 
-pub sound_row : (row : Row) (label : Label) (round body : Value) (p : Posting) → IsLabel row label → round ≡ column row 2 → body ≡ column row 3
-    → posting_at label.book label.cycle round body ≡ Some p → Passes label.rule p → IsSound row
-sound_row row label round body p l r v found passes = record {
+-- a row whose posting passes is sound
+pub sound_row : (row : Row) (label : Label) (p : Posting) → IsVerdict row (verdict.Sound label p) → IsSound row
+sound_row row label p found = record {
   rule = label.rule;
   posting = p;
-  ruled = l.rule;
-  kept = at_row row label.book label.cycle round body (Some p) l.book l.cycle r v found;
-  passes = passes;
+  ruled = found.0.rule;
+  kept = found.1;
+  passes = found.2;
 }
-
--- a posting that failed its check is told with what is first wrong
-pub blamed : (row : Row) (label : Label) (p : Posting) (f : CertFault) → IsLabel row label → posting_of row ≡ Some p → (f ≢ cert.OutOfMemory → ExplainsBy label.rule p f) → Blames row (uncertified label f)
-blamed row label p cert.Shape l kept h = (l.book, l.cycle, (label.rule, p, l.rule, kept, h (λ e. cc)))
-blamed row label p (cert.Broken b) l kept h = (l.book, l.cycle, (label.rule, p, l.rule, kept, h (λ e. cc)))
-blamed row label p (cert.PriceTooLarge e) l kept h = (l.book, l.cycle, (label.rule, p, l.rule, kept, h (λ e. cc)))
-blamed row label p (cert.PriceOnSlack e) l kept h = (l.book, l.cycle, (label.rule, p, l.rule, kept, h (λ e. cc)))
-blamed row label p (cert.Underfilled i) l kept h = (l.book, l.cycle, (label.rule, p, l.rule, kept, h (λ e. cc)))
-blamed row label p (cert.Overfilled i) l kept h = (l.book, l.cycle, (label.rule, p, l.rule, kept, h (λ e. cc)))
-blamed row label p cert.OutOfMemory l kept h = tt
 
 -- what was kept under a test passed it
 under_test : (b : Bool) (q p : Posting) → (if b then Some q else None) ≡ Some p → (b ≡ true) × (q ≡ p)

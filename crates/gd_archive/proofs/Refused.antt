@@ -1,5 +1,5 @@
 -- Refusals of fetching and auditing.
-use Rattle.std.proofs.Common.{◌≡◌, inl, ℕ, List, Option, Some, Result, Ok, Err, IsErrAnd, sym, subst}
+use Rattle.std.proofs.Common.{◌≡◌, inl, ℕ, List, Option, Some, Result, Ok, Err, IfErr, IsErrAnd, sym, subst}
 use Rattle.sqlite.specs.Order.{Row}
 use Rattle.sqlite.specs.State.{State}
 use Rattle.sqlite.specs.declared.error.Error.{Error}
@@ -15,7 +15,7 @@ use Rattle.gd_archive.specs.declared.fault.FetchFault.TheVariants as fetch_fault
 use Rattle.gd_archive.specs.declared.fault.AuditFault.{AuditFault}
 use Rattle.gd_archive.specs.declared.fault.AuditFault.TheVariants as audit_fault
 use Rattle.gd_archive.specs.Faults as faults
-use Rattle.gd_archive.specs.Calls.{BlamesFirst, Tells, Fetches, Audits}
+use Rattle.gd_archive.specs.Calls.{AuditsNone, BlamesFirst, Tells, Fetches, Audits}
 
 -- what is left as it was, in an archive of version 2, was not refused for its version
 failed : (old new : State) (e : Error) → IsArchive old.now 2 → new.now ≡ old.now → IsFailed old new e
@@ -60,3 +60,12 @@ module _ (old new : State) where
   pub audits_blamed : (r : Result ℕ AuditFault) (rows : List Row) (f : AuditFault) → IsErrAnd r (λ g. g ≡ f) → IsListed old new rows → BlamesFirst rows f → Audits old new r
   audits_blamed (Ok n) rows f h listed blames = absurd h
   audits_blamed (Err g) rows f h listed blames = subst (λ x. Audits old new (Err x)) (sym h) (audit_blamed rows f listed blames)
+
+  -- what stops the listing stops the audit of each
+  none_stopped : (f : StoreFault) → IsStopped old new f → AuditsNone old new f
+  none_stopped store_fault.OldVersion h = h
+  none_stopped (store_fault.Store e) h = (h.0, λ says. h.1 (inl says))
+
+  pub each_stopped : {X : Type 0} (r : Result X StoreFault) (f : StoreFault) → IsErrAnd r (λ g. g ≡ f) → IsStopped old new f → IfErr r (AuditsNone old new)
+  each_stopped (Ok x) f h stopped = tt
+  each_stopped (Err g) f h stopped = subst (AuditsNone old new) (sym h) (none_stopped f stopped)

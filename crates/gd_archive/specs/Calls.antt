@@ -9,11 +9,15 @@ use Rattle.gd_archive_store.specs.Calls as store
 use Rattle.gd_archive_store.specs.Migration.{carried}
 use Rattle.gd_archive_store.specs.declared.fault.KeepFault.{KeepFault}
 use Rattle.gd_archive_store.specs.declared.fault.MigrateFault.{MigrateFault}
+use Rattle.gd_archive_store.specs.declared.fault.StoreFault.{StoreFault}
+use Rattle.gd_archive_store.specs.declared.fault.StoreFault.TheVariants as store_fault
 use Rattle.gd_board.specs.declared.posting.Posting.{Posting}
 use Rattle.gd_body.specs.Body.{IsBody}
 use Rattle.gd_body.specs.Rows.{body_text}
 use Rattle.gd_body.specs.Spread.{without_spread}
 use Rattle.gd_archive.specs.Soundness.{posting_of, posting_at, number, IsSound, Blames}
+use Rattle.gd_archive.specs.Findings.{AreFindings}
+use Rattle.gd_archive.specs.declared.finding.Finding.{Finding}
 use Rattle.gd_archive.specs.declared.fault.Rule.{Rule}
 use Rattle.gd_archive.specs.declared.fault.Rule.TheVariants.{Classes, Spread}
 use Rattle.gd_archive.specs.declared.fault.FetchFault.{FetchFault}
@@ -86,6 +90,15 @@ module _ (old new : State) where
   Audits (Err (audit_fault.Unsound book cycle what)) =
       IsArchive old.now 2 × (new.now ≡ old.now)
       × ((rows : List Row) × IsPermutation (rows_of old.now) rows × IsAscending rows × BlamesFirst rows (audit_fault.Unsound book cycle what))
+
+  -- What is found of each row is told, of the rows in their order.
+  abbrev pub AuditsEach : List Finding → Type 0
+  AuditsEach findings = (rows : List Row) × store.IsListed old new rows × AreFindings rows findings
+
+  -- None is told: a file of version 1 is refused as such, or the database is blamed.
+  abbrev pub AuditsNone : StoreFault → Type 0
+  AuditsNone store_fault.OldVersion = SaysVersion old.now 1 × IsSame old new
+  AuditsNone (store_fault.Store e) = store.IsFailed old new e
 
   -- Each row of version 1 is carried over, and each posting is kept; or nothing changes. A file of another version is refused
   -- as such.

@@ -1,3 +1,5 @@
 pub mod Faults
 pub mod Soundness
+pub mod Bumps
+pub mod Findings
 pub mod Calls

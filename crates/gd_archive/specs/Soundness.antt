@@ -12,9 +12,6 @@ use Rattle.gd_cost.specs.Parts.{class_words, words_of}
 use Rattle.gd_cost.specs.Made.{first_of}
 use Rattle.gd_certificate.specs.InForce.{ExplainsTariff, ExplainsClasses}
 use Rattle.gd_certificate.specs.declared.CertFault.{CertFault}
-use Rattle.gd_certificate.specs.declared.CertFault.TheVariants.{OutOfMemory as NoMemory}
-use Rattle.sqlite.specs.declared.error.ErrorCode.TheVariants.{OutOfMemory}
-use Rattle.sqlite.specs.declared.error.Error.TheVariants.{SqliteFailure}
 use Rattle.gd_board.specs.declared.posting.Posting.{Posting}
 use Rattle.gd_body.specs.Body.{posting_in}
 use Rattle.gd_archive.specs.declared.fault.Rule.{Rule}
@@ -24,6 +21,8 @@ use Rattle.gd_archive.specs.declared.fault.AuditFault.TheVariants.{OldVersion, S
 use Rattle.gd_archive.specs.declared.fault.Unsound.{Unsound}
 use Rattle.gd_archive.specs.declared.row.Label.{Label}
 use Rattle.gd_archive.specs.declared.fault.Unsound.TheVariants.{Damaged, Uncertified}
+use Rattle.gd_archive.specs.declared.sound.Verdict.{Verdict}
+use Rattle.gd_archive.specs.declared.sound.Verdict.TheVariants as verdict
 
 -- the posting that a value is the text of
 abbrev pub posting_of_body : Value → Option Posting
@@ -118,7 +117,7 @@ Blames row OldVersion = ⊥
 Blames row (Store e) = ⊤
 Blames row (Unfit book cycle what) = IsBook row book × IsCycle row cycle × Explains row what
 
--- what is told of a posting that failed its check so: want of memory is the database's
-abbrev pub uncertified : Label → CertFault → AuditFault
-uncertified label NoMemory = Store (SqliteFailure OutOfMemory)
-uncertified label fault = Unfit label.book label.cycle (Uncertified fault)
+-- what is found of a row: a posting that passes by its label's rule, or why the row is not sound
+abbrev pub IsVerdict : Row → Verdict → Type 0
+IsVerdict row (verdict.Sound label p) = IsLabel row label × (posting_of row ≡ Some p) × Passes label.rule p
+IsVerdict row (verdict.Unsound label what) = IsLabel row label × Explains row what

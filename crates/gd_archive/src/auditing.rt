@@ -1,15 +1,16 @@
 //! The audit of an archive.
 
-ghost use Rattle.std.specs.Prelude.{All, IfErr, OnOk};
+ghost use Rattle.std.specs.Prelude.{All, IfErr, IfOk, OnOk};
 ghost use Rattle.sqlite.specs.Held.{state};
 ghost use Rattle.sqlite.specs.State.{HasCleanDisk};
 ghost use Rattle.gd_archive.specs.Calls as calls;
 ghost use Rattle.gd_archive.specs.Soundness as spec;
 
 use crate::fault::AuditFault;
+use crate::finding::{Finding, find_all};
 use crate::row::Label;
 use crate::sound::test_row;
-use gd_archive_store::all;
+use gd_archive_store::{StoreFault, all};
 use sqlite::{Alter, Connection, Error, Row};
 use std::alloc::Global;
 
@@ -49,4 +50,24 @@ pub fn audit<S: Alter>(conn: &mut Connection<S>, alloc: Global) -> Result<u64, A
     label_all(rows.as_slice())?;
     test_all(alloc, rows.as_slice())?;
     Ok(rows.len() as u64)
+}
+
+/// What is found of each of an archive's postings, by book, then cycle.
+///
+/// # Errors
+///
+/// `OldVersion` on an archive of version 1, before all others; `Store` where the database refuses, is no archive or has a row
+/// that no archive has, or memory is wanting.
+pub fn audit_each<S: Alter>(
+    conn: &mut Connection<S>,
+    alloc: Global,
+) -> Result<Vec<Finding>, StoreFault>
+    ensures found { HasCleanDisk (state S.Store conn.new) → IfOk result (λ findings.
+        calls.AuditsEach (state S.Store conn.old) (state S.Store conn.new) findings.items) }
+    ensures fault { HasCleanDisk (state S.Store conn.new) → IfErr result
+        (calls.AuditsNone (state S.Store conn.old) (state S.Store conn.new)) }
+    ensures clean { HasCleanDisk (state S.Store conn.new) → HasCleanDisk (state S.Store conn.old) }
+{
+    let rows = all(conn)?;
+    Ok(find_all(alloc, rows.as_slice())?)
 }

@@ -1,5 +1,8 @@
 //! How a posting is checked, and why a call of an archive is refused.
 
+ghost use Rattle.std.specs.Prelude.{◌≡◌};
+ghost use Rattle.gd_archive.specs.Soundness.{number};
+
 use gd_archive_store::StoreFault;
 use gd_certificate::CertFault;
 use gd_units::{CycleNo, Name};
@@ -18,6 +21,18 @@ pub enum Rule {
     Classes,
     /// The tariff in force: class totals, and then an even spread.
     Spread,
+}
+
+impl Rule {
+    /// The number by which an archive keeps it.
+    pub fn number(self) -> u8
+        ensures { result ≡ number self }
+    {
+        match self {
+            Rule::Classes => 1,
+            Rule::Spread => 2,
+        }
+    }
 }
 
 /// What is wrong with a row of an archive.

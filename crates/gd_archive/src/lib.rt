@@ -6,15 +6,19 @@
 #![tactic(auto)]
 
 mod auditing;
+mod bumps;
 mod fault;
+mod finding;
 mod keeping;
 mod laws;
 mod migration;
 mod row;
 mod sound;
 
-pub use auditing::audit;
+pub use auditing::{audit, audit_each};
+pub use bumps::Bumps;
 pub use fault::{AuditFault, FetchFault, Rule, Unsound};
+pub use finding::{Finding, Summary};
 pub use gd_archive_store::{KeepFault, MigrateFault, StoreFault, make};
 pub use keeping::{fetch, keep};
 pub use laws::fetched_once_kept;

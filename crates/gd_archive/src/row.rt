@@ -3,8 +3,7 @@
 ghost use Rattle.std.specs.Prelude.{◌≡◌, IfOk, IfSome};
 ghost use Rattle.gd_archive.specs.Soundness as spec;
 
-use crate::fault::{AuditFault, NO_ARCHIVE, NO_MEMORY, Rule, Unsound};
-use gd_certificate::CertFault;
+use crate::fault::{NO_ARCHIVE, Rule};
 use gd_units::{CycleNo, Name};
 use sqlite::types::ValueRef;
 use sqlite::{Error, Row};
@@ -62,21 +61,6 @@ impl Label {
         match rule_of(number) {
             Some(rule) => Ok(Label { book, cycle, rule }),
             None => Err(NO_ARCHIVE),
-        }
-    }
-    /// What is wrong with the row of this label.
-    pub(crate) fn unsound(self, what: Unsound) -> AuditFault
-        ensures { result ≡ AuditFault.Unsound self.book self.cycle what }
-    {
-        AuditFault::Unsound(self.book, self.cycle, what)
-    }
-    /// What is told of a posting of this label that failed its check so: want of memory is the database's.
-    pub(crate) fn uncertified(self, fault: CertFault) -> AuditFault
-        ensures { result ≡ spec.uncertified self fault }
-    {
-        match fault {
-            CertFault::OutOfMemory => AuditFault::Store(NO_MEMORY),
-            fault => self.unsound(Unsound::Uncertified(fault)),
         }
     }
 }

@@ -13,8 +13,8 @@ use gd_body::{BodyFault, read_body};
 use gd_certificate::{CertFault, Prices, check, check_classes};
 use gd_cost::{Lex, Tariff};
 use gd_units::{CycleNo, Name};
-use sqlite::Row;
 use sqlite::types::ValueRef;
+use sqlite::{Error, Row};
 use std::alloc::{AllocError, Global};
 
 /// Whether a posting is of this book, cycle and round.
@@ -88,6 +88,49 @@ fn check_posting(alloc: Global, rule: Rule, posting: &Posting) -> Result<(), Cer
     }
 }
 
+/// What is found of a row by its check.
+#[derive(Drop)]
+pub(crate) enum Verdict {
+    /// Its posting passes.
+    Sound(Label, Posting),
+    Unsound(Label, Unsound),
+}
+
+/// What is found of a row whose posting failed its check. The only error is want of memory.
+fn failed(label: Label, fault: CertFault) -> Result<Verdict, Error>
+    ensures { IfOk result (λ verdict. (fault ≢ CertFault.OutOfMemory)
+        × (verdict ≡ Verdict.Unsound label (Unsound.Uncertified fault))) }
+{
+    match fault {
+        CertFault::OutOfMemory => Err(NO_MEMORY),
+        fault => Ok(Verdict::Unsound(label, Unsound::Uncertified(fault))),
+    }
+}
+
+/// What is found of a row.
+///
+/// # Errors
+///
+/// Where the row is none of an archive, or memory is wanting.
+pub(crate) fn judge(alloc: Global, row: &Row) -> Result<Verdict, Error>
+    ensures { IfOk result (spec.IsVerdict row.now) }
+{
+    let label = Label::of(row)?;
+    let (round, body) = (row.get_ref(2)?, row.get_ref(3)?);
+    let posting = match posting_at(alloc, label.book, label.cycle, round, body) {
+        Ok(posting) => posting,
+        Err(BodyFault::Damaged) => return Ok(Verdict::Unsound(label, Unsound::Damaged)),
+        Err(BodyFault::OutOfMemory) => return Err(NO_MEMORY),
+    };
+    match check_posting(alloc, label.rule, &posting) {
+        Ok(()) => Ok(Verdict::Sound(label, posting)),
+        Err(fault) => {
+            drop(posting);
+            failed(label, fault)
+        }
+    }
+}
+
 /// Shows that what a row keeps passes its check.
 ///
 /// # Errors
@@ -97,21 +140,11 @@ pub(crate) fn test_row(alloc: Global, row: &Row) -> Result<(), AuditFault>
     ensures ok { OnOk result (spec.IsSound row.now) }
     ensures err { IfErr result (spec.Blames row.now) }
 {
-    let label = Label::of(row)?;
-    let (round, body) = (row.get_ref(2)?, row.get_ref(3)?);
-    let posting = match posting_at(alloc, label.book, label.cycle, round, body) {
-        Ok(posting) => posting,
-        Err(BodyFault::Damaged) => return Err(label.unsound(Unsound::Damaged)),
-        Err(BodyFault::OutOfMemory) => return Err(AuditFault::Store(NO_MEMORY)),
-    };
-    match check_posting(alloc, label.rule, &posting) {
-        Ok(()) => {
+    match judge(alloc, row)? {
+        Verdict::Sound(_, posting) => {
             drop(posting);
             Ok(())
         }
-        Err(fault) => {
-            drop(posting);
-            Err(label.uncertified(fault))
-        }
+        Verdict::Unsound(label, what) => Err(AuditFault::Unsound(label.book, label.cycle, what)),
     }
 }

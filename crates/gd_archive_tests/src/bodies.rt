@@ -1,7 +1,9 @@
 //! Kept postings, and the calls on them. None of these has a clause, so that the proof of a test carries no database from one
 //! call to the next.
 
-use gd_archive::{AuditFault, FetchFault, KeepFault, MigrateFault, Rule, StoreFault};
+use gd_archive::{
+    AuditFault, Bumps, FetchFault, Finding, KeepFault, MigrateFault, Rule, StoreFault, Summary,
+};
 use gd_board::Posting;
 use gd_body::{body_of, read_body};
 use gd_units::{CycleNo, Name};
@@ -106,6 +108,26 @@ pub(crate) fn fetched<S: Alter>(
 
 pub(crate) fn audit<S: Alter>(conn: &mut Connection<S>, alloc: Global) -> Result<u64, AuditFault> {
     gd_archive::audit(conn, alloc)
+}
+
+/// Whether this is cycle 4 of the other day in numbers.
+fn is_intraday_2(summary: Summary) -> bool {
+    summary.cycle.number() == 4
+        && summary.round.number() == 5
+        && summary.rule == Rule::Spread
+        && summary.lines == 1
+        && summary.quantity == 60
+}
+
+/// Whether an audit of each posting finds cycle 4 of the other day alone, with nothing beside which its bumped line could be held.
+pub(crate) fn finds_intraday_2<S: Alter>(conn: &mut Connection<S>, alloc: Global) -> bool {
+    let Ok(findings) = gd_archive::audit_each(conn, alloc) else {
+        return false;
+    };
+    match findings.as_slice() {
+        [Finding::Sound(summary, Bumps::Unchecked)] => is_intraday_2(*summary),
+        _ => false,
+    }
 }
 
 pub(crate) fn migrate<S: Alter>(

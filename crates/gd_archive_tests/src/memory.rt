@@ -1,6 +1,6 @@
 //! A worked archive on disks in memory. Others are among the acceptance cases.
 
-use crate::bodies::{INTRADAY_2, audit, fetched, keep, make, migrate, posting};
+use crate::bodies::{INTRADAY_2, audit, fetched, finds_intraday_2, keep, make, migrate, posting};
 use crate::disks::new_archive;
 use gd_archive::{KeepFault, MigrateFault, Rule};
 use gd_board::Posting;
@@ -37,6 +37,7 @@ fn keeps_once<S: Alter>(
     assert!(rt; has(conn, alloc, 4, Rule::Spread, INTRADAY_2));
     assert!(rt; matches!(fetched(conn, alloc, 3), Ok(None)));
     assert!(rt; matches!(audit(conn, alloc), Ok(1)));
+    assert!(rt; finds_intraday_2(conn, alloc));
     assert!(rt; matches!(migrate(conn, alloc), Err(MigrateFault::OtherVersion)));
 }
 

@@ -72,6 +72,10 @@ fn words_of(reply: &Reply) -> Option<&'static str> {
         Reply::Kept => Some(
             "the archive has a posting of this book for a cycle of this day already, and it is left as it is; a day that is run anew wants an archive of its own",
         ),
+        // (Where all are sound the status is 0.)
+        Reply::Audited(_) => Some(
+            "not all postings of the archive are sound: an unsound row names each that is not, and audited counts the others",
+        ),
         Reply::OtherVersion => {
             Some("the archive is not of version 1, so there is nothing to migrate")
         }
@@ -130,7 +134,9 @@ fn words_of(reply: &Reply) -> Option<&'static str> {
         | Reply::ReceiptDone { .. }
         | Reply::ReceiptRefused { .. }
         | Reply::Slot(_)
-        | Reply::Audited(_)
+        | Reply::Sound { .. }
+        | Reply::UnsoundBumps { .. }
+        | Reply::UncheckedBumps { .. }
         | Reply::Migrated(_)
         | Reply::Opened { .. }
         | Reply::Replayed { .. }

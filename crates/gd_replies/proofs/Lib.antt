@@ -1,3 +1,4 @@
 pub mod Totals
 pub mod CycleRows
 pub mod Rest
+pub mod Digits

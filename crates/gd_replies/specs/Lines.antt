@@ -3,6 +3,7 @@ use Rattle.std.specs.Prelude.{ℕ, ◌-◌, ◌==◌, ℤ, unsigned_abs, codes, 
 use Rattle.std.specs.Prelude.{List, [], ◌∷◌, ◌++◌, length, replicate}
 use Rattle.std.specs.List.{flat_map, join_with_byte}
 use Rattle.std.specs.Fmt.{decimal, signed_decimal}
+use Rattle.hex.specs.Hex.{encode_lower}
 use Rattle.gd_certificate.specs.Names.{cert_fault_name}
 use Rattle.gd_certificate.specs.declared.CertFault.{CertFault}
 use Rattle.gd_machine.specs.Names.{refusal_name}
@@ -96,6 +97,10 @@ fields_of reply.Kept = codes "refused" ∷ codes "keep" ∷ codes "1" ∷ codes 
 fields_of (reply.Audited n) = codes "audited" ∷ decimal n ∷ []
 fields_of (reply.Damaged book cycle) = codes "unsound" ∷ book ∷ decimal cycle ∷ codes "Damaged" ∷ []
 fields_of (reply.Unsound book cycle fault) = codes "unsound" ∷ book ∷ decimal cycle ∷ cert_fault_name fault ∷ []
+fields_of (reply.Sound book cycle round rule lines quantity sum) =
+    codes "sound" ∷ book ∷ decimal cycle ∷ decimal round ∷ decimal rule ∷ decimal lines ∷ decimal quantity ∷ encode_lower sum ∷ []
+fields_of (reply.UnsoundBumps book cycle) = codes "unsound" ∷ book ∷ decimal cycle ∷ codes "Bumped" ∷ []
+fields_of (reply.UncheckedBumps book cycle) = codes "unchecked" ∷ book ∷ decimal cycle ∷ codes "Bumped" ∷ []
 fields_of (reply.Migrated n) = codes "migrated" ∷ decimal n ∷ []
 fields_of reply.OtherVersion = codes "refused" ∷ codes "migrate" ∷ codes "1" ∷ codes "OtherVersion" ∷ []
 fields_of reply.Store = codes "fault" ∷ codes "0" ∷ codes "Store" ∷ []

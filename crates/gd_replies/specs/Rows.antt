@@ -1,6 +1,7 @@
 -- What a row is printed from.
 use Rattle.std.specs.Prelude.{ℕ, codes, List, [], ◌∷◌}
 use Rattle.std.specs.Fmt.{decimal, signed_decimal}
+use Rattle.hex.specs.Hex.{encode_lower}
 use Rattle.gd_certificate.specs.Names.{cert_fault_name}
 use Rattle.gd_machine.specs.Names.{refusal_name}
 use Rattle.gd_text_part.specs.Causes.{fault_row, fault_name, fault_detail}
@@ -22,6 +23,7 @@ field_text (field.Call call) = call_name call
 field_text (field.Refusal refusal) = refusal_name refusal
 field_text (field.Detail detail) = refusal_detail detail.0
 field_text (field.Certificate fault) = cert_fault_name fault
+field_text (field.Sum sum) = encode_lower sum.0
 
 -- the kind and the seven fields of a row
 abbrev pub all_fields : AllFields → List (List ℕ)

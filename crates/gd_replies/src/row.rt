@@ -1,6 +1,7 @@
 //! What a row is printed from.
 
 ghost use Rattle.std.specs.Prelude.{Some};
+ghost use Rattle.hex.specs.Hex.{encode_lower};
 ghost use Rattle.gd_replies.specs.Calls.{refusal_detail};
 ghost use Rattle.gd_replies.specs.Lines.{line, spread_field};
 ghost use Rattle.gd_replies.specs.Rows.{all_fields, field_text, row_fields};
@@ -10,6 +11,7 @@ use gd_certificate::CertFault;
 use gd_machine::Refusal;
 use gd_text_part::TextFault;
 use gd_units::Name;
+use hex::encode_to_slice;
 use std::fmt;
 
 /// A field of a row.
@@ -24,6 +26,7 @@ pub(crate) enum Field {
     Refusal(Refusal),
     Detail(DetailField),
     Certificate(CertFault),
+    Sum(SumField),
 }
 
 /// The fields of a row, of which the first is its kind. Those behind them are empty.
@@ -74,6 +77,25 @@ impl fmt::Display for DetailField {
     }
 }
 
+/// A SHA-256 as a field: 64 hexadecimal digits, with lower case letters.
+#[derive(Clone, Copy)]
+pub(crate) struct SumField(pub(crate) [u8; 32]);
+
+impl fmt::Display for SumField {
+    ghost output = { λ s. Some (encode_lower s.0) };
+
+    fn fmt<W: fmt::Write>(&self, f: &mut fmt::Formatter<W>) -> fmt::Result {
+        let mut digits = [0u8; 64];
+        let Ok(()) = encode_to_slice(self.0.as_slice(), &mut digits) else {
+            unreachable!();
+        };
+        match str::from_utf8(&digits) {
+            Ok(text) => f.write_str(text),
+            Err(_) => { unreachable!() }
+        }
+    }
+}
+
 impl fmt::Display for Field {
     ghost output = { λ x. Some (field_text x) };
 
@@ -88,6 +110,7 @@ impl fmt::Display for Field {
             Field::Refusal(refusal) => refusal.fmt(f),
             Field::Detail(detail) => detail.fmt(f),
             Field::Certificate(fault) => fault.fmt(f),
+            Field::Sum(sum) => sum.fmt(f),
         }
     }
 }

@@ -8,7 +8,7 @@ use Rattle.gasday.proofs.audit.tell_audit.Goals as goal
 pub returns-in_default : goal.returns-in_default
 returns-in_default g c = record {
   told = no_store;
-  means = subst (λ o. TellsOf g.S.Store (TellsAudit g.S.Store) o c.unopened.result.archive no_store) (sym c.in_default.is) (c.unopened.ensures.archive, refl);
+  means = subst (λ o. TellsOf g.S.Store (TellsAudit g.S.Store c.args.each) o c.unopened.result.archive no_store) (sym c.in_default.is) (c.unopened.ensures.archive, refl);
   is = subst (λ r. IfOk r (λ a. answer_seen a ≡ no_store)) (sym c.unopened.ensures.answer) c.of_no_store.ensures;
 }
 
@@ -17,6 +17,6 @@ returns g c =
     let t = c.audit_file-answer.ensures in
     record {
       told = t.told;
-      means = subst (λ o. TellsOf g.S.Store (TellsAudit g.S.Store) o (Some c.audit_file-answer.new.conn) t.told) (sym c.in-Ok.is) t.means;
+      means = subst (λ o. TellsOf g.S.Store (TellsAudit g.S.Store c.args.each) o (Some c.audit_file-answer.new.conn) t.told) (sym c.in-Ok.is) t.means;
       is = t.is;
     }

@@ -1,5 +1,5 @@
 use Rattle.std.proofs.Common.{inl, inr, refl}
-use Rattle.gasday_archive.specs.Archives.{make_fault}
+use Rattle.gasday_archive.specs.Archives.{store_fault}
 use Rattle.gasday_part.specs.AnswerSeen.{answer_seen}
 use Rattle.gasday_archive.proofs.day.tell_in_archive.Goals as goal
 
@@ -15,8 +15,8 @@ returns-in-Ok g c = record {
 pub returns-in-Err : goal.returns-in-Err
 returns-in-Err g c = record {
   made = record {
-    told = make_fault c.in-Err.fault;
+    told = store_fault c.in-Err.fault;
     means = λ clean. inr (c.in-Err.fault, c.in-Err.ensures.made clean, refl);
-    is = c.of_unmade.ensures;
+    is = c.of_store_fault.ensures;
   };
 }

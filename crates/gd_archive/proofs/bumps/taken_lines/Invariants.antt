@@ -1,0 +1,9 @@
+use Rattle.std.proofs.Common.{◌≡◌, nat_lt, map}
+use Rattle.std.specs.Prelude.{filter}
+use Rattle.std.specs.List.{range_with_len}
+use Rattle.gd_archive.specs.Bumps.{taken}
+use Rattle.gd_archive.proofs.bumps.taken_lines.Given as goal
+
+-- The bumped lines so far.
+abbrev pub invariant-loop-line : goal.invariant-loop-line
+invariant-loop-line l = l.lines.items ≡ filter (λ b. nat_lt 0 b.1) (map (λ i. (i, taken l.former l.posting i)) (range_with_len 0 l.line))
