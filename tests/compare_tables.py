@@ -1,13 +1,17 @@
 #!/usr/bin/env python3
 """compare_tables.py
 
-Holds what users are told of rows, faults and refusals against the program's own tables:
+Holds what users are told of rows, faults, refusals, limits and commands against the program's own tables:
 
 - the forms of rows in `docs/DEFINITIONS.md` are those in the program's help, and the importer's kinds, stages and fields;
 - the fields that messages know of each kind are as many as its form has (`crates/gd_messages/src/field.rt`);
-- the refusals of each call stand in the help and in DEFINITIONS in the order of the machine's tests (`Machine.tests_of`);
+- the refusals of each call stand in the help and in DEFINITIONS in the order of the machine's tests (`Machine.tests_of`), and are
+  numbered in that order (`gd_replies`: Calls.refusal_number);
 - each refusal, each cause of a text's fault and each finding of a check that the program can print has a meaning in the help, and
-  each refusal one in the report.
+  each refusal one in the report;
+- a limit that has two constants is the same in both, and messages and the help tell it;
+- each command of the program, with its options, stands in the completions, the manual's synopsis, README, GUIDE and the trials of
+  refused allocations.
 
 What differs is printed. The last line is 'N passed, M failed', and the exit status is 0 only where none failed.
 """
@@ -112,6 +116,89 @@ def defined_refusals() -> dict[str, list[str]]:
     return found
 
 
+def numbers_of(function: str) -> dict[str, str]:
+    """The clauses of a function of numbers in gd_replies, by the word of their last pattern; a variable stands for all others."""
+    text = text_of("crates/gd_replies/specs/Calls.antt")
+    clauses = re.findall(rf"^{function} (.*) = (.+)$", text, re.M)
+    return {re.sub(r".*\b(?:call|route|refusal)\.(\w+).*", r"\1", pattern): value for pattern, value in clauses}
+
+
+def number_of(call: str, refusal: str) -> int | None:
+    """The number with which the program tells a refusal of a call."""
+    value = numbers_of("refusal_number").get("Route" if refusal in ROUTE else refusal, "")
+    for function, word in (("route_number", refusal), ("unknown_line", call), ("too_many_events", call)):
+        if value.startswith(function):
+            clauses = numbers_of(function)
+            value = clauses.get(word) or next(it for pattern, it in clauses.items() if pattern.islower())
+    return int(value) if value.isdigit() else None
+
+
+# The constants that are one limit, and what messages and the help tell of it: a file and a form with the number as it is written.
+MESSAGES, PROGRAM_HELP = "crates/gd_messages/src/", "crates/gasday_words/src/help.rt"
+LIMITS = [
+    (("gd_text_part/src/blocks.rt", "MAX_BLOCKS"), ("gd_office/src/fault.rt", "MAX_SLOTS"), MESSAGES + "order.rt", "an office has at most {}\""),
+    (("gd_text_part/src/blocks.rt", "MAX_SESSIONS_A_SLOT"), ("gd_office_part/src/kept.rt", "MAX_SESSIONS"), MESSAGES + "order.rt", "and {} of a slot"),
+    (("gd_text_part/src/waiting.rt", "MAX_SESSIONS_A_PHASE"), None, MESSAGES + "order.rt", "at most {} between two desk rows"),
+    (("gd_lines/src/lib.rt", "MAX_LINES"), ("gd_question/src/lib.rt", "MAX_LINES"), MESSAGES + "refusal.rt", "a question has at most {}\""),
+    (("gd_system/src/lib.rt", "MAX_PLACES"), None, MESSAGES + "refusal.rt", "at most {} places"),
+    (("gd_system/src/lib.rt", "MAX_POINTS"), None, MESSAGES + "refusal.rt", "at most {} points"),
+    (("gd_system/src/lib.rt", "MAX_POOLS"), None, MESSAGES + "refusal.rt", "at most {} pools"),
+    (("gd_contracts/src/lib.rt", "MAX_CONTRACTS"), None, MESSAGES + "refusal.rt", "this contract is one too many; a pipeline has at most {}\""),
+    (("gd_text_part/src/input.rt", "MAX_BYTES"), None, MESSAGES + "fault.rt", "at most {} bytes"),
+    (("gd_text_part/src/records.rt", "MAX_ROWS"), None, MESSAGES + "fault.rt", " {} rows"),
+    (("gd_text_part/src/input.rt", "MAX_READS"), None, MESSAGES + "fault.rt", " {} reads"),
+    (("gd_units/src/quantity.rt", "MAX"), None, MESSAGES + "field.rt", "const QUANTITY: Wanted = Wanted::Number(0, {_});"),
+    (("gd_units/src/cycle.rt", "MAX"), None, MESSAGES + "field.rt", 'Field("the cycle", Wanted::Number(1, {_}))'),
+]
+
+
+def limit(place: tuple[str, str]) -> int:
+    """The number of a constant, the first of its name in that file."""
+    value = re.search(rf"const {place[1]}: \w+ = ([0-9_]+);", text_of(f"crates/{place[0]}"))
+    return int(value[1]) if value else 0
+
+
+def limits() -> Iterator[str | None]:
+    for place, other, path, form in LIMITS:
+        number = limit(place)
+        told = form.replace("{_}", f"{number:_}").replace("{}", str(number))
+        yield from differing(f"{place[1]} in {place[0]} and what {path} tells", (number > 0, text_of(path).count(told)), (True, 1))
+        if other:
+            yield from differing(f"{place[1]} in {place[0]} and {other[1]} in {other[0]}", number, limit(other))
+
+
+def commands() -> dict[str, list[str]]:
+    """The commands of the program, each with its options."""
+    functions = re.split(r"^(?:pub\(crate\) )?fn (\w+)", text_of("crates/gasday_words/src/line.rt"), flags=re.M)
+    bodies = dict(zip(functions[1::2], functions[2::2], strict=True))
+    options = {name: option[1] for name, body in bodies.items() if (option := re.search(r'\.long\("(\w+)"\)', body))}
+    found = {}
+    for body in bodies.values():
+        command = re.search(r'command\(\s*alloc,\s*"(\w+)"', body)
+        if command:
+            found[command[1]] = [options[name] for name in re.findall(r"\.arg\((\w+)\(", body) if name in options]
+    return found
+
+
+def told_commands() -> Iterator[str | None]:
+    """Where the commands and their options have to stand."""
+    places = {
+        "completions/gasday.bash": (r"'(?:\w+ )*{0} (?:\w+ )*help --help --version'", r"'(?:--\w+ )*--{1} (?:--\w+ )*--help'"),
+        "completions/_gasday": (r"^        '{0}:", r"--{1}\["),
+        "completions/gasday.fish": (r" -a {0} -d", r"_from (?:\w+ )*{0}(?: \w+)*' -l {1} "),
+        "man/gasday.1.in": (r"^\\fBgasday {0}\b", r"\\-\\-{1}\b"),
+        "README.md": (r"^\|[^|]*`{0}\b", None),
+        "docs/GUIDE.md": (r"(?:gasday |`){0}\b", None),
+        "tests/refuse_memory.py": (r'"{0}[ "]', None),
+    }
+    for path, (form, option_form) in places.items():
+        text = text_of(path)
+        for command, options in commands().items():
+            yield None if re.search(form.format(command), text, re.M) else f"{path} has no command {command}"
+            for option in options if option_form else []:
+                yield None if re.search(option_form.format(command, option), text, re.M) else f"{path} has no --{option} of {command}"
+
+
 def printed(*places: str) -> set[str]:
     """The names that these types print."""
     found = set()
@@ -145,6 +232,9 @@ def faults() -> Iterator[str | None]:
     for call, names in tested.items():
         yield from differing(f"the refusals of {call} in the machine and in the help", names, told.get(call))
         yield from differing(f"the refusals of {call} in the machine and in DEFINITIONS", names, said.get(call))
+        word = next(event for event, row in CALLS.items() if row == call).replace("PostCapacity", "Post")
+        numbers = [number_of(word, name) for name in names]
+        yield from differing(f"the numbers of the refusals of {call}, {names}", numbers, [*range(1, len(names) + 1)])
     refusals = printed("crates/gd_machine/src/refusal.rt") | set(ROUTE)
     yield from differing("refusals without a meaning in the help", sorted(refusals - meanings(day)), [])
     yield from differing("refusals without a meaning in the report", sorted(refusals - set(REFUSALS) - {"BoardTaken"}), [])
@@ -152,6 +242,8 @@ def faults() -> Iterator[str | None]:
     yield from differing("causes without a meaning in the help", sorted(causes - meanings(program)), [])
     found = printed("crates/gd_schedule/src/fault.rt", "crates/gd_certificate/src/fault.rt")
     yield from differing("findings without a meaning in the help", sorted(found - meanings(check)), [])
+    yield from limits()
+    yield from told_commands()
 
 
 def main() -> int:
