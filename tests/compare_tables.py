@@ -4,6 +4,8 @@
 Holds what users are told of rows, faults, refusals, limits and commands against the program's own tables:
 
 - the forms of rows in `docs/DEFINITIONS.md` are those in the program's help, and the importer's kinds, stages and fields;
+- the kinds of rows that the program reads, with their words and stages (`gd_text_part`: Kinds), are those of DEFINITIONS and of messages,
+  and each kind of row that it prints (`gd_replies`: Lines) stands in DEFINITIONS and in a help;
 - the fields that messages know of each kind are as many as its form has (`crates/gd_messages/src/field.rt`);
 - the refusals of each call stand in the help and in DEFINITIONS in the order of the machine's tests (`Machine.tests_of`), and are
   numbered in that order (`gd_replies`: Calls.refusal_number);
@@ -58,6 +60,20 @@ def helped_forms(text: str) -> set[Form]:
     """The forms of rows in the long help, up to what it says of faults."""
     rows = text.partition("\nFaults:")[0]
     return {tuple(form.split(",")) for form in re.findall(r"^  ([a-z]+(?:,[A-Za-z]+)+)$", rows, re.M)}
+
+
+def read_kinds() -> dict[str, int]:
+    """The words of all kinds of rows that are read, each with its stage."""
+    text = text_of("crates/gd_text_part/specs/Kinds.antt")
+    words = {kind: word for word, kind in re.findall(r'is_text text \(codes "(\w+)"\) then Some kind\.(\w+)', text)}
+    stages = dict(re.findall(r"^stage_of kind\.(\w+) = (\d)$", text, re.M))
+    return {words.get(kind, f"the kind {kind}"): int(stage) for kind, stage in stages.items()}
+
+
+def printed_kinds() -> list[str]:
+    """The first fields of all rows that are printed."""
+    text = text_of("crates/gd_replies/specs/Lines.antt")
+    return sorted(set(re.findall(r'^(?:uncertified_fields .*|fields_of .*) =\s+codes "(\w+)"', text, re.M)))
 
 
 def imported_forms() -> dict[Form, int]:
@@ -224,6 +240,14 @@ def faults() -> Iterator[str | None]:
     taken = {form: stage for form, stage in defined.items() if form[0] != "bumped"}
     for form in sorted(set(taken) | set(imported)):
         yield from differing(f"the stage of {','.join(form)} in DEFINITIONS and in the importer", taken.get(form), imported.get(form))
+    read, messages = read_kinds(), text_of("crates/gd_messages/src/kind.rt")
+    yield from differing("kinds in Kinds and in DEFINITIONS, with their stages", read, {form[0]: stage for form, stage in defined.items()})
+    named = set(re.findall(r'\(RowKind::\w+, "(\w+)"\)', messages))
+    yield from differing("words of kinds in Kinds and in messages", sorted(set(read) ^ named), ["bumped"])
+    definitions = text_of("docs/DEFINITIONS.md")
+    for kind in printed_kinds():
+        told = any(re.search(rf"\b{kind}\b", text) for text in helps.values())
+        yield from differing(f"rows {kind}: told in a help, and in DEFINITIONS", (told, f"`{kind}" in definitions), (True, True))
     fields = told_fields()
     for kind in sorted({form[0] for form in taken}):
         wanted = max(len(form) for form in taken if form[0] == kind)
