@@ -11,6 +11,8 @@ Holds what users are told of rows, faults, refusals, limits and commands against
   numbered in that order (`gd_replies`: Calls.refusal_number);
 - each refusal, each cause of a text's fault and each finding of a check that the program can print has a meaning in the help, and
   each refusal one in the report;
+- the calls of a book (`gd_replies`: Calls.call_name) and the rows that begin what they are told (the machine's replies) are those of the
+  report, the desk, the importer and the trials of broken texts;
 - a limit that has two constants is the same in both, and messages and the help tell it;
 - each command of the program, with its options, stands in the completions, the manual's synopsis, README, GUIDE and the trials of
   refused allocations.
@@ -18,6 +20,7 @@ Holds what users are told of rows, faults, refusals, limits and commands against
 What differs is printed. The last line is 'N passed, M failed', and the exit status is 0 only where none failed.
 """
 
+import ast
 import re
 import sys
 from collections.abc import Iterator
@@ -183,6 +186,35 @@ def limits() -> Iterator[str | None]:
             yield from differing(f"{place[1]} in {place[0]} and {other[1]} in {other[0]}", number, limit(other))
 
 
+def assigned(path: str, name: str) -> list[str]:
+    """The words of a tuple, a set or a table's keys that a Python file gives this name."""
+    for node in ast.parse(text_of(path)).body:
+        targets = node.targets if isinstance(node, ast.Assign) else [node.target] if isinstance(node, ast.AnnAssign) else []
+        if any(isinstance(it, ast.Name) and it.id == name for it in targets):
+            value = getattr(node, "value", None)
+            words = value.keys if isinstance(value, ast.Dict) else getattr(value, "elts", [])
+            return sorted(it.value for it in words if isinstance(it, ast.Constant))
+    return []
+
+
+# Where the calls of a book are listed, and where the rows are that begin what a call is told, with what else stands there.
+OTHER_CALLS = [("companion/gasday_report/day.py", "CALLS", ()), ("companion/gasday_desk/rows.py", "CALLS", ()),
+               ("companion/gasday_desk/permissions.py", "CALLS", ("clock", "open")), ("tests/break_days.py", "CALLS", ())]
+OTHER_HEADS = [("companion/gasday_report/day.py", "HEADS", ()), ("companion/gasday_desk/rows.py", "HEADS", ()),
+               ("companion/gasday_import/confirmations.py", "HEADS", ("fault",)),
+               ("tests/break_days.py", "REPLIES", ("bound", "total", "sched", "bumped", "inside"))]
+
+
+def calls_and_heads() -> Iterator[str | None]:
+    calls = sorted(re.findall(r'^call_name call\.\w+ = codes "(\w+)"', text_of("crates/gd_replies/specs/Calls.antt"), re.M))
+    for path, name, others in OTHER_CALLS:
+        yield from differing(f"the calls of a book and {name} of {path}", sorted([*calls, *others]), assigned(path, name))
+    replies = text_of("crates/gd_machine/src/reply.rt").partition("pub enum Reply {")[2].partition("\n}")[0]
+    heads = [word.lower() for word in re.findall(r"^    ([A-Z]\w+)", replies, re.M)] + ["refused"]
+    for path, name, others in OTHER_HEADS:
+        yield from differing(f"what begins an answer to a call and {name} of {path}", sorted([*heads, *others]), assigned(path, name))
+
+
 def commands() -> dict[str, list[str]]:
     """The commands of the program, each with its options."""
     functions = re.split(r"^(?:pub\(crate\) )?fn (\w+)", text_of("crates/gasday_words/src/line.rt"), flags=re.M)
@@ -266,6 +298,7 @@ def faults() -> Iterator[str | None]:
     yield from differing("causes without a meaning in the help", sorted(causes - meanings(program)), [])
     found = printed("crates/gd_schedule/src/fault.rt", "crates/gd_certificate/src/fault.rt")
     yield from differing("findings without a meaning in the help", sorted(found - meanings(check)), [])
+    yield from calls_and_heads()
     yield from limits()
     yield from told_commands()
 
