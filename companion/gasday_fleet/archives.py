@@ -1,4 +1,4 @@
-"""An archive as a worker audits it, by `gasday audit`."""
+"""An archive as a worker audits it, by `gasday audit --all`, which looks at bumped lines too."""
 
 import os
 import shutil
@@ -14,12 +14,16 @@ LOG, EMPTY_LOG = "-wal", 32 + 24
 
 
 def verdict_of(told: Told) -> Answer:
-    if told.is_a("audited", 0):
-        return {"verdict": "sound", "told": told.first(), "postings": told.rows()[0][1]}
-    if told.is_a("unsound", 1):
-        return {"verdict": "unsound", "told": told.first()}
+    """What the rows of all postings come to, of which the last one counts those that are sound."""
     if told.is_a("fault", 2):
         return failure(told.first())
+    *postings, last = told.rows() or [[""]]
+    unsound = [",".join(row).rstrip(",") for row in postings if row[0] == "unsound"]
+    if last[0] == "audited" and told.status == 0 and not unsound:
+        return {"verdict": "sound", "told": ",".join(last).rstrip(","), "postings": last[1]}
+    if last[0] == "audited" and told.status == 1 and unsound:
+        more = f" and {len(unsound) - 1} more" if len(unsound) > 1 else ""
+        return {"verdict": "unsound", "told": unsound[0] + more}
     raise no_answer(told, "audit")
 
 
@@ -37,7 +41,7 @@ def audit_archive(program: Program, path: str) -> Answer:
     try:
         before = sha256_of_file(path)
         begun = time.monotonic()
-        told = program.call(["audit", path])
+        told = program.call(["audit", "--all", path])
         seconds = time.monotonic() - begun
         if sha256_of_file(path) != before:
             return failure("it changed while it was audited")

@@ -17,7 +17,7 @@ or a fault of usage, of reading or of writing."""
 
 NOT_PROVED = """Nothing of this is proved; each answer that it counts has passed what is: `gasday audit`, `gasday day` or
 `gasday check`. `gasday-fleet --help` tells more, and the exit status."""
-AUDIT = "Audits archives, by `gasday audit`. The table has file, postings, verdict, what was told, seconds and SHA-256."
+AUDIT = "Audits archives, by `gasday audit --all`. The table has file, postings, verdict, what was told, seconds and SHA-256."
 DAYS = """Runs the gas days of folders once more, by `gasday day`, and compares what it tells with what was told: of each text
 FOLDER/texts/DAY.csv with FOLDER/told/DAY.csv. With --archive it tells postings that are missing, surplus or other ones, and books
 of which no text is there; told/ may then be left out."""

@@ -57,11 +57,13 @@ def audit(path):
         time.sleep(float(rest[0]))
     if kind == "odd":
         tell("something else", status=3)
+    sound = ["sound,DEMO,1,1,2,1,70," + "0" * 64, "unchecked,DEMO,1,Bumped"]
     if kind == "unsound":
-        tell("unsound,DEMO,3,Underfilled", status=1)
+        others = ["unsound,DEMO,4,Bumped", "unsound,DEMO,5,Damaged"] if rest else []
+        tell(*sound, "unsound,DEMO,3,Underfilled", *others, "audited,1", status=1)
     if kind == "broken":
         tell("fault,0,Store", status=2)
-    tell("audited,5")
+    tell(*sound, "audited,5")
 
 def day(text, path):
     rows = [row.split(",") for row in text.splitlines()]
@@ -109,7 +111,9 @@ def padded(rows):
 if words[0] == "--version":
     print("gasday {version}")
 elif words[0] == "audit":
-    audit(words[1])
+    if words[1] != "--all":
+        tell("usage", status=2)
+    audit(words[2])
 elif words[0] == "day":
     day(sys.stdin.read(), words[2] if len(words) > 1 else None)
 else:

@@ -30,6 +30,10 @@ class Verdicts(FleetTest):
         self.assertIn("gasday-fleet: 001.db: unsound: unsound,DEMO,3,Underfilled\n", error)
         self.assertIn("3 archives: 2 sound, 1 unsound\n", error)
 
+    def test_more_than_one_unsound_posting(self) -> None:
+        out, _, status = self.serial("audit", *self.archives("unsound twice"))
+        self.assertEqual((cells_of(out, "told"), status), (["unsound,DEMO,3,Underfilled and 2 more"], 1))
+
     def test_what_cannot_be_run_stops_nothing(self) -> None:
         names = [*self.archives("broken", "unsound", "die", "odd", "hang 9", "sound"), "nothing.db"]
         out, error, status = self.serial("audit", *names, "--timeout", "1")
