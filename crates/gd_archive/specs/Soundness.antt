@@ -1,5 +1,5 @@
 -- The posting that a row of an archive keeps, and when the row is sound.
-use Rattle.std.specs.Prelude.{◌≡◌, ◌==◌, ◌&&◌, ℕ, pos, Bool, false, List, [], ⊤, map, Option, Some, None, if◌then◌else◌}
+use Rattle.std.specs.Prelude.{◌≡◌, ◌≢◌, ◌==◌, ◌&&◌, ℕ, pos, Bool, false, List, [], ⊤, map, Option, Some, None, if◌then◌else◌}
 use Rattle.std.specs.Ordering.{int_eq}
 use Rattle.std.specs.Str.{bytes_eq}
 use Rattle.sqlite.specs.Order.{Row, column}
@@ -12,6 +12,7 @@ use Rattle.gd_cost.specs.Parts.{class_words, words_of}
 use Rattle.gd_cost.specs.Made.{first_of}
 use Rattle.gd_certificate.specs.InForce.{ExplainsTariff, ExplainsClasses}
 use Rattle.gd_certificate.specs.declared.CertFault.{CertFault}
+use Rattle.gd_certificate.specs.declared.CertFault.TheVariants.{OutOfMemory as NoMemory}
 use Rattle.gd_board.specs.declared.posting.Posting.{Posting}
 use Rattle.gd_body.specs.Body.{posting_in}
 use Rattle.gd_archive.specs.declared.fault.Rule.{Rule}
@@ -86,11 +87,11 @@ pub record IsSound (row : Row) : Type 0 where
   pub kept : posting_of row ≡ Some posting
   pub passes : Passes rule posting
 
--- why a row is not sound
+-- why a row is not sound, for which want of memory is no reason
 abbrev pub Explains : Row → Unsound → Type 0
 Explains row Damaged = posting_of row ≡ None
 Explains row (Uncertified fault) =
-    (rule : Rule) × (p : Posting) × (column row 4 ≡ Int (pos (number rule))) × (posting_of row ≡ Some p) × ExplainsBy rule p fault
+    (fault ≢ NoMemory) × (rule : Rule) × (p : Posting) × (column row 4 ≡ Int (pos (number rule))) × (posting_of row ≡ Some p) × ExplainsBy rule p fault
 
 -- the row is of this book
 abbrev pub IsBook : Row → List ℕ → Type 0
