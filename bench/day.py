@@ -118,7 +118,7 @@ def run(words, text, answer):
     """Seconds, bytes at the peak and exit status of a run."""
     with open(text, "rb") as stdin, open(answer, "wb") as stdout:
         begun = time.perf_counter()
-        child = subprocess.Popen(words, stdin=stdin, stdout=stdout)
+        child = subprocess.Popen(words, stdin=stdin, stdout=stdout, stderr=subprocess.DEVNULL)
         _, status, usage = os.wait4(child.pid, 0)
         return time.perf_counter() - begun, usage.ru_maxrss * RSS_BYTES, os.waitstatus_to_exitcode(status)
 

@@ -103,7 +103,8 @@ def make_archive(program, path, number):
     for day in range(DAYS):
         date = datetime(2026, 1, 1) + timedelta(days=day)
         text = head + row("day", f"{date:%Y-%m-%d}", "CST6", f"N{number}-{date:%m%d}") + calls_of(chance, ends, begin_of(date))
-        subprocess.run([program, "day", "--archive", path], input=text.encode(), check=True, stdout=subprocess.DEVNULL)
+        subprocess.run([program, "day", "--archive", path], input=text.encode(), check=True, stdout=subprocess.DEVNULL,
+                       stderr=subprocess.DEVNULL)
 
 
 def tamper(path):

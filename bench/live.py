@@ -66,7 +66,8 @@ def inserted(path, count, size):
 def timed(words, text=None):
     """Seconds and MB of a run."""
     began = time.perf_counter()
-    child = subprocess.Popen(words, stdin=subprocess.PIPE if text else subprocess.DEVNULL, stdout=subprocess.PIPE)
+    child = subprocess.Popen(words, stdin=subprocess.PIPE if text else subprocess.DEVNULL, stdout=subprocess.PIPE,
+                             stderr=subprocess.DEVNULL)
     if text:
         child.stdin.write(text)
         child.stdin.close()

@@ -33,7 +33,7 @@ _gasday() {
             ;;
         day:*)
             [ "$before" = --wait ] && return
-            [[ $before = --archive || $before = --book ]] || _gasday_words '--archive --book --wait --help'
+            [[ $before = --archive || $before = --book ]] || _gasday_words '--archive --book --strict --wait --help'
             _gasday_files
             ;;
         question:3) _gasday_words '1 2 3 4 5 --help' ;;
@@ -48,7 +48,11 @@ _gasday() {
             ;;
         text:4 | question:4 | carry:4 | migrate:4) [ "${COMP_WORDS[2]}" = --wait ] && _gasday_files ;;
         question:5) [ "${COMP_WORDS[2]}" = --wait ] && _gasday_words '1 2 3 4 5' ;;
-        check:* | solve:* | calendar:* | office:*)
+        office:*)
+            _gasday_words '--strict --help'
+            _gasday_files
+            ;;
+        check:* | solve:* | calendar:*)
             _gasday_words '--help'
             _gasday_files
             ;;

@@ -30,6 +30,7 @@ complete -c gasday -n '__gasday_behind check' -a best -d 'Prices show that no al
 complete -c gasday -n '__gasday_behind check' -a cut -d 'A set shows that no schedule is allowed'
 complete -c gasday -n '__fish_seen_subcommand_from day' -l archive -r -F -d 'Keep what is published in a file'
 complete -c gasday -n '__fish_seen_subcommand_from day' -l book -r -F -d 'Serve calls on the book of a file'
+complete -c gasday -n '__fish_seen_subcommand_from day office' -l strict -d 'End with 1 where it is not in order'
 complete -c gasday -n '__fish_seen_subcommand_from audit' -l all -d 'Tell of each posting of an archive'
 complete -c gasday -n '__fish_seen_subcommand_from day audit text question carry migrate' -l wait -x -d 'Wait so many seconds for a file that another process has'
 complete -c gasday -n '__gasday_behind audit text question carry migrate' -F

@@ -219,12 +219,16 @@ def commands() -> dict[str, list[str]]:
     """The commands of the program, each with its options."""
     functions = re.split(r"^(?:pub\(crate\) )?fn (\w+)", text_of("crates/gasday_words/src/line.rt"), flags=re.M)
     bodies = dict(zip(functions[1::2], functions[2::2], strict=True))
-    options = {name: option[1] for name, body in bodies.items() if (option := re.search(r'\.long\("(\w+)"\)', body))}
+    given = r'(?:option|flag)\(\s*alloc,\s*"(\w+)"'
+    options = {name: option[1] for name, body in bodies.items() if "command(" not in body and (option := re.search(given, body))}
     found = {}
-    for body in bodies.values():
+    for name, body in bodies.items():
         command = re.search(r'command\(\s*alloc,\s*"(\w+)"', body)
         if command:
-            found[command[1]] = [options[name] for name in re.findall(r"\.arg\((\w+)\(", body) if name in options]
+            # (where another function goes on with what this one has given)
+            whole = body + "".join(other for other in bodies.values() if f" {name}(alloc)?." in other)
+            arguments = re.findall(rf"\.arg\((?:{given}|(\w+)\()", whole)
+            found[command[1]] = [it for own, maker in arguments if (it := own or options.get(maker, ""))]
     return found
 
 

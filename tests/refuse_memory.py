@@ -139,10 +139,12 @@ TEXTS = {
     "solve": PIPELINE,
     "calendar": 'day,2026-03-08,"CST6CDT,M3.2.0,M11.1.0",,,,,\n',
     "day": DAY,
+    "day --strict": DAY,
     "question - 1": DAY,
     "question - 2": DAY,
     "carry -": DAY,
     "office": OFFICE,
+    "office --strict": OFFICE,
 }
 
 
@@ -315,6 +317,20 @@ def keeps_or_not(want, status, got, ended):
     return is_front(rows, status, told, ended)
 
 
+def compares_or_not(want, status, got, ended):
+    """The answer, with status 1 where there was no memory to compare a posting with the one that is kept. Or the archive's fault
+    behind rows at the front, or want of memory. Then the answer, since nothing that is kept changes."""
+    (told, again) = got
+    if again != want[1]:
+        return False
+    if told == want[0]:
+        return ended in (status, 1)
+    if told.endswith(NO_STORE):
+        front = told[: -len(NO_STORE)]
+        return ended == 2 and (not front or front.replace(KEPT, b"") == want[0].replace(KEPT, b""))
+    return is_front(want[0], status, told, ended)
+
+
 def audits_or_not(want, status, got, ended):
     """The answer, or a fault, and then the answer."""
     (told, again) = got
@@ -366,6 +382,8 @@ def archive_trials(program, library, folder):
     """The commands with an archive, and what each may leave."""
     kept, old = kept_archive(program, folder), old_archive(folder)
     yield "day --archive", FileTrial(library, folder, [program, "day", "--archive", FILE], KEPT_DAY, None), keeps_or_not
+    again = [program, "day", "--strict", "--archive", FILE]
+    yield "day --strict --archive", FileTrial(library, folder, again, KEPT_DAY, kept), compares_or_not
     yield "audit", FileTrial(library, folder, [program, "audit", FILE], "", kept), audits_or_not
     yield "audit --all", FileTrial(library, folder, [program, "audit", "--all", FILE], "", kept), reads_or_not
     yield "migrate", FileTrial(library, folder, [program, "migrate", FILE], "", old), migrates_or_not

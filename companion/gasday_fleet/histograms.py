@@ -3,6 +3,8 @@
 from collections import Counter
 from typing import NamedTuple
 
+from gasday_report.words import grouped
+
 from .summary import ClassFact
 
 MOST_BARS = 24
@@ -71,6 +73,6 @@ def histogram_of(fact: ClassFact) -> str:
     most, room = max(bars.counts), (WIDTH - LEFT - 10) / max(len(bars.counts), 8)
     scale = (HEIGHT - BOTTOM - TOP) / most
     drawn = "".join(bar_svg(bars, at, room, scale) for at in range(len(bars.counts)) if bars.counts[at])
-    return (f'<figure><figcaption>class {fact.class_number}, {fact.total} in the base</figcaption>'
+    return (f'<figure><figcaption>class {fact.class_number}, {grouped(fact.total)} in the base</figcaption>'
             f'<svg class="histogram" viewBox="0 0 {WIDTH} {HEIGHT}" role="img"'
             f' aria-label="What class {fact.class_number} loses">{drawn}{axis_svg(bars, room, most)}</svg></figure>')

@@ -9,7 +9,7 @@ from gasday_report.html_format import inputs_html, verdict_html
 from gasday_report.html_parts import document, notes_html, section, table_html
 from gasday_report.page_tables import Cell, Mark, Table, column, mark, numbers
 from gasday_report.verdicts import Verdict
-from gasday_report.words import CYCLES, counted
+from gasday_report.words import CYCLES, counted, grouped
 
 from .histograms import histogram_of
 from .picture import LEGEND, picture_of
@@ -49,7 +49,7 @@ def counts_html(summary: Summary) -> str:
     words = [(len(summary.scenarios), "scenarios"), (summary.verdicts["impossible"], "without a schedule"),
              (lost, "in which a class loses"), (sum(fact.binds > 0 for fact in summary.elements), "elements that bind in one"),
              (sum(fact.loses > 0 for fact in summary.lines), "lines that lose in one")]
-    return f'<div class="counts">{"".join(f"<div><b>{n}</b>{escape(word)}</div>" for n, word in words)}</div>'
+    return f'<div class="counts">{"".join(f"<div><b>{grouped(n)}</b>{escape(word)}</div>" for n, word in words)}</div>'
 
 
 def classes_html(summary: Summary) -> str:
@@ -57,7 +57,7 @@ def classes_html(summary: Summary) -> str:
     rows = ""
     for fact in summary.classes:
         losses = [fact.percentile(percent) for percent in PERCENTS]
-        cells = [f"class {fact.class_number}", fact.total, *("" if loss is None else loss for loss in losses)]
+        cells = [f"class {fact.class_number}", grouped(fact.total), *("" if loss is None else grouped(loss) for loss in losses)]
         rows += f"<tr>{''.join(f'<td>{cell}</td>' for cell in cells)}</tr>"
     drawn = "".join(map(histogram_of, summary.classes))
     return section("What each class loses", counts_html(summary),

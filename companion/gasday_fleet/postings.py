@@ -44,9 +44,9 @@ def opened(path: str) -> Iterator[sqlite3.Connection]:
         with closing(sqlite3.connect(f"file:{quote(os.path.abspath(path))}?mode=ro&immutable=1", uri=True)) as archive:
             yield archive
         return
-    with tempfile.TemporaryDirectory(prefix="gasday-fleet-") as folder:
-        with closing(sqlite3.connect(copied(path, folder))) as archive:
-            yield archive
+    with (tempfile.TemporaryDirectory(prefix="gasday-fleet-") as folder,
+          closing(sqlite3.connect(copied(path, folder))) as archive):
+        yield archive
 
 
 def rows_in(path: str, query: str, *values: object) -> list[tuple[object, ...]]:

@@ -13,6 +13,8 @@ from typing import NamedTuple
 # What a worker answers of an item, by the names of the table's columns.
 Answer = dict[str, str]
 FAILED = "failed"
+# By this Dask has its workers give memory back in small pieces, which costs a short run more than it spares.
+MEMORY_OF_WORKERS = "MALLOC_TRIM_THRESHOLD_"
 
 
 class Died(Exception):
@@ -63,12 +65,13 @@ def sha256_of_program(path: str) -> str:
 def called(words: Sequence[str], text: bytes, seconds: float) -> Told:
     """Runs a program in a session of its own, so that a Ctrl-C at a terminal ends the run in order and not each program."""
     what = " ".join(["gasday", *words[1:2]])
+    environment = {name: value for name, value in os.environ.items() if name != MEMORY_OF_WORKERS}
     try:
         with tempfile.TemporaryFile() as file:  # which is read at once, where a pipe is filled bit by bit
             file.write(text)
             file.seek(0)
             done = subprocess.run(words, stdin=file, stdout=subprocess.PIPE, stderr=subprocess.DEVNULL, timeout=seconds,
-                                  start_new_session=True)
+                                  start_new_session=True, env=environment)
     except OSError as error:
         raise Died(f"{words[0]} can't be run: {error.strerror}") from None
     except subprocess.TimeoutExpired:

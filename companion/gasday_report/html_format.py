@@ -16,6 +16,7 @@ from .texts import Input
 from .verdicts import Verdict
 from .words import ARITHMETIC_NOTES, CYCLES, REASON_NOTES, counted
 
+
 def verdict_html(verdict: Verdict) -> str:
     kind, word = ("pass", "PASS") if verdict.passed else ("fail", "FAIL")
     return (f'<div class="verdict {kind}"><b>{word}</b>{escape(verdict.by)}<div>{escape(verdict.words)}</div></div>')

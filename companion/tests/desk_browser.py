@@ -257,23 +257,21 @@ def open_day(people: People) -> None:
 
 def play(people: People) -> None:
     """The calls of the example at their moments."""
-    kept = 0
-    for row in example_parts()[1]:
+    for number, row in enumerate(example_parts()[1], start=1):
         people.clock.pass_to(int(row[1]))
-        if kept == FIRST_FREEZE:
+        if number == FIRST_FREEZE:
             check_live(people)
         else:
             getattr(people, row[0])(row)
-        kept += 1
-        need(len(people.desk.keepers[BOOK].view.calls) == kept, f"{kept} calls were made, {row} not once")
-        if kept in PICTURED:
-            name, user, address = PICTURED[kept]
+        need(len(people.desk.keepers[BOOK].view.calls) == number, f"{number} calls were made, {row} not once")
+        if number in PICTURED:
+            name, user, address = PICTURED[number]
             people.be(user, address)
             people.look(name)
 
 
-# How many calls are made before the one that an alarm makes, while somebody looks.
-FIRST_FREEZE = 8
+# Which call an alarm makes, while somebody looks.
+FIRST_FREEZE = 9
 # After so many calls: the picture's name, who looks, and at which page.
 PICTURED = {5: ("confirm", "olga", f"{DAY}/confirm"), 11: ("nominate", "tom", f"{DAY}/nominate"), 13: ("day", "sam", DAY),
             15: ("schedule", "audrey", f"{DAY}/schedules/2"), 16: ("shipper", "tom", f"{DAY}/schedules/2")}

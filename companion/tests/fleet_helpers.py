@@ -57,6 +57,8 @@ def audit(path):
         time.sleep(float(rest[0]))
     if kind == "odd":
         tell("something else", status=3)
+    if kind == "environment":
+        note(*sorted(os.environ))
     sound = ["sound,DEMO,1,1,2,1,70," + "0" * 64, "unchecked,DEMO,1,Bumped"]
     if kind == "unsound":
         others = ["unsound,DEMO,4,Bumped", "unsound,DEMO,5,Damaged"] if rest else []

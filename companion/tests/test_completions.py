@@ -37,12 +37,12 @@ class Completing(unittest.TestCase):
         self.assertEqual(self.offers("check", "best", ""), ["--help", *FILES])
 
     def test_commands_that_take_texts(self) -> None:
-        for command in ("solve", "calendar", "office"):
-            self.assertEqual(self.offers(command, ""), ["--help", *FILES])
+        for command, options in (("solve", ["--help"]), ("calendar", ["--help"]), ("office", ["--help", "--strict"])):
+            self.assertEqual(self.offers(command, ""), [*options, *FILES])
             self.assertEqual(self.offers(command, "text.csv", "o"), ["other.db"])
 
     def test_the_file_of_a_day(self) -> None:
-        self.assertEqual(self.offers("day", ""), ["--archive", "--book", "--help", "--wait", *FILES])
+        self.assertEqual(self.offers("day", ""), ["--archive", "--book", "--help", "--strict", "--wait", *FILES])
         self.assertEqual(self.offers("day", "--a"), ["--archive"])
         self.assertEqual(self.offers("day", "--b"), ["--book"])
         self.assertEqual(self.offers("day", "--archive", ""), FILES)

@@ -23,8 +23,11 @@ line,R1,D1,4,0,100,,
 ANSWER = "best,,,,,,,\ntotal,1,0,,,,,\ntotal,2,0,,,,,\ntotal,3,0,,,,,\ntotal,4,90,,,,,\nsched,1,90,,,,,\n"
 BROKEN = "broken,Underfilled,1,,,,,\n"
 FAKE = f"""#!/bin/sh
-case "$1" in --version) echo gasday 1 ;; audit) printf 'unsound,DEMO,1,Underfilled,,,,\\naudited,0,,,,,,\\n'; exit 1 ;; *) cat > /dev/null
-printf '{BROKEN}'; exit 1 ;; esac
+case "$1" in
+--version) echo gasday 1 ;;
+audit) printf 'unsound,DEMO,1,Underfilled,,,,\\naudited,0,,,,,,\\n'; exit 1 ;;
+*) cat > /dev/null; printf '{BROKEN}'; exit 1 ;;
+esac
 """
 
 

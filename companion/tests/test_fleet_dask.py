@@ -47,6 +47,12 @@ class OwnCluster(DaskTest):
         self.assertEqual(self.log().count("audit die"), 2 + 1)
         self.assertEqual(self.read("table.csv").decode(), other[0])
 
+    def test_the_program_takes_memory_as_it_does_by_itself(self) -> None:
+        self.local("audit", *self.archives("environment"))
+        names = self.log()[1].split()
+        self.assertIn("PATH", names)
+        self.assertNotIn("MALLOC_TRIM_THRESHOLD_", names)
+
     def test_files_that_are_sent(self) -> None:
         names = [*self.archives("sound", "unsound"), "nothing.db"]
         sent, seen = self.local("audit", *names, "--send", "--untimed"), self.serial("audit", *names, "--untimed")

@@ -87,7 +87,7 @@ class Release(unittest.TestCase):
         wanted = {str(path.relative_to(prefix)) for path in prefix.rglob("*") if not path.is_dir()}
         wanted = {name.replace("zsh/site-functions", "zsh/vendor-completions") for name in wanted}
         self.assertEqual(packed, {f"{name}.gz" if name.startswith("share/man") else name for name in wanted})
-        self.assertEqual(set(line.split()[1] for line in told.splitlines()), {"root/root"})
+        self.assertEqual({line.split()[1] for line in told.splitlines()}, {"root/root"})
 
     @unittest.skipUnless(os.access(PROGRAM, os.X_OK), "no program is built")
     def test_a_whole_release_is_tried(self) -> None:

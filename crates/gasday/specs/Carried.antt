@@ -1,10 +1,9 @@
 -- What an order is answered, the office among them, and what is written of it.
-use Rattle.std.specs.Prelude.{◌≡◌, ◌⊎◌, ⊤, ℕ, true, false, List, Option, None, Result, Err}
+use Rattle.std.specs.Prelude.{◌≡◌, ◌⊎◌, ⊤, ℕ, Bool, true, false, List, Option, None, Result, Err}
 use Rattle.sqlite_trees.specs.declared.store.Store.{Ghosts}
 use Rattle.sqlite.specs.Held.{Held}
 use Rattle.sqlite.specs.declared.error.Error.{Error}
-use Rattle.gasday_words.specs.Ordered.{Ordered, Text, ArchivedDay, Audit, AuditEach, LiveDay, Migrate}
-use Rattle.gasday_words.specs.declared.order.Command.TheVariants as command
+use Rattle.gasday_words.specs.Ordered.{Ordered, ArchivedDay, Audit, AuditEach, LiveDay, Migrate, Office}
 use Rattle.gasday_part.specs.Answers.{Told, no_memory, one}
 use Rattle.gasday_part.specs.Output.{WritesTold}
 use Rattle.gasday_part.specs.Solutions.{ChecksAnswer}
@@ -13,20 +12,21 @@ use Rattle.gasday_archive.specs.Runs.{OrNoMemory, TellsOpened}
 use Rattle.gasday.specs.Audited.{TellsAudit}
 use Rattle.gasday_office.specs.Offices.{AnswersOfficeBytes}
 
--- an office's answer to the bytes of a text; no archive comes back
-abbrev pub AnswersSlots : {S : Type 0} → List ℕ → Option (Held S) → Told → Type 0
-AnswersSlots text left a = (left ≡ None) × AnswersOfficeBytes text a
+-- an office's answer to the bytes of a text, a strict one's or any; no archive comes back
+abbrev pub AnswersSlots : {S : Type 0} → Bool → List ℕ → Option (Held S) → Told → Type 0
+AnswersSlots strict text left a = (left ≡ None) × AnswersOfficeBytes strict text a
 
 -- an order that is carried out over the bytes of one text or of none
 abbrev pub IsCarriedOut : Ordered → Type 0
 IsCarriedOut (Audit file) = ⊤
 IsCarriedOut (AuditEach file) = ⊤
+IsCarriedOut (Office strict) = ⊤
 IsCarriedOut order = IsAnswered order
 
 -- What an order is answered: of an office what its text is answered, or that memory ran out before; of an audit, which reads none,
 -- what is told of the file that the opener gives; of each other order what that is.
 abbrev pub AnswersOrder : {S : Type 0} → Ghosts S → (Result (Held S) Error → Type 0) → Ordered → List ℕ → Option (Held S) → Told → Type 0
-AnswersOrder g gives (Text command.Office) text left a = OrNoMemory (AnswersSlots text) left a
+AnswersOrder g gives (Office strict) text left a = OrNoMemory (AnswersSlots strict text) left a
 AnswersOrder g gives (Audit file) text left a = TellsOpened g gives (TellsAudit g false) left a
 AnswersOrder g gives (AuditEach file) text left a = TellsOpened g gives (TellsAudit g true) left a
 AnswersOrder g gives order text left a = Answers g gives order text left a
@@ -41,7 +41,7 @@ TellsAnswer question answer a = ChecksAnswer question answer a ⊎ (a ≡ one no
 
 -- The exit status of an order whose file is closed so: 2 where what it kept or migrated isn't copied from the log into the file.
 abbrev pub status_closed : Ordered → Result ⊤ Error → ℕ → ℕ
-status_closed (ArchivedDay file) (Err error) status = 2
+status_closed (ArchivedDay file strict) (Err error) status = 2
 status_closed (LiveDay file) (Err error) status = 2
 status_closed (Migrate file) (Err error) status = 2
 status_closed order closed status = status

@@ -48,5 +48,6 @@ pub(crate) fn tell_audit<S: Alter + Drop>(
     Outcome {
         answer,
         archive: Some(conn),
+        repeats: None,
     }
 }

@@ -7,7 +7,7 @@ ghost use Rattle.gasday.specs.Files.{AsksFile, AsksFor, IsInquiry, PrintsFile, S
 
 use crate::Ran;
 use gasday_archive::Opener;
-use gasday_live::{ask_book, print_book, serve_book};
+use gasday_live::{Witness, ask_book, print_book, serve_book};
 use gasday_part::{Inquiry, Written, last_of, of_one, write_answer};
 use gasday_words::Order;
 use gd_replies::Reply;
@@ -61,15 +61,17 @@ fn write_unopened<S: Alter + Drop, W: Write>(alloc: Global, error: &Error, write
         status,
         last,
         file: None,
+        course: None,
     }
 }
 
 /// Serves lines of a reader, as they come, on the book of the file that the opener gives.
-pub(crate) fn serve_over<T, S, R, W, O>(
+pub(crate) fn serve_over<T, S, R, W, V, O>(
     threads: &T,
     alloc: Global,
     reader: R,
     writer: &mut W,
+    witness: V,
     opener: O,
 ) -> Ran<S>
 where
@@ -77,20 +79,27 @@ where
     S: Alter + Drop,
     R: Read + Drop,
     W: Write,
+    V: Witness,
     O: Opener<S>,
     ensures { ServesFile S.Store (O.Opener.opens opener) (R.remaining reader) result.file
         (W.contents writer.old) (W.contents writer.new) result.status }
 {
     match opener.open() {
         Ok(mut conn) => {
-            let Written { status, last } = serve_book(threads, alloc, &mut conn, reader, writer);
+            let Written { status, last } = serve_book(
+                threads, alloc, &mut conn, reader, writer, witness,
+            );
             Ran {
                 status,
                 last,
                 file: Some(conn),
+                course: None,
             }
         }
-        Err(error) => write_unopened(alloc, &error, writer),
+        Err(error) => {
+            drop(witness);
+            write_unopened(alloc, &error, writer)
+        }
     }
 }
 
@@ -110,6 +119,7 @@ pub(crate) fn print_over<S: Alter + Drop, W: Write, O: Opener<S>>(
                 status,
                 last,
                 file: Some(conn),
+                course: None,
             }
         }
         Err(error) => write_unopened(alloc, &error, writer),
@@ -139,6 +149,7 @@ where
                 status,
                 last,
                 file: Some(conn),
+                course: None,
             }
         }
         Err(error) => write_unopened(alloc, &error, writer),

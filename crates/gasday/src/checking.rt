@@ -42,5 +42,6 @@ pub(crate) fn check_over<T: Threads + Sync, S: Alter + Drop, W: Write>(
         status,
         last,
         file: None,
+        course: None,
     }
 }

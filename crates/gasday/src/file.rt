@@ -41,9 +41,12 @@ impl<'a> NamedFile<'a> {
     /// The name of the file. A gas day makes it where there is none; who audits, migrates, prints or asks one names one that is there.
     fn name(&self) -> Option<&'a str> {
         match self.order {
-            Order::Text(_) | Order::CheckAnswer | Order::ArchivedDay("") | Order::LiveDay("") =>
-                None,
-            Order::ArchivedDay(file) | Order::LiveDay(file) => Some(file),
+            Order::Text(_)
+            | Order::CheckAnswer
+            | Order::Office { .. }
+            | Order::ArchivedDay { file: "", .. }
+            | Order::LiveDay("") => None,
+            Order::ArchivedDay { file, .. } | Order::LiveDay(file) => Some(file),
             Order::Audit(file)
             | Order::AuditEach(file)
             | Order::Migrate(file)

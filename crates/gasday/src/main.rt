@@ -25,11 +25,14 @@ use crate::copied::{CopiedFile, unwritable};
 use crate::file::{NamedFile, close, is_database};
 use crate::input::{STANDARD_INPUT, Text, Unread};
 use crate::noted::Noted;
-use crate::told::{tell_unclosed, tell_unread, tell_unwritten, tell_waiting, tell_why};
+use crate::told::{
+    ClockWitness, Course, tell_course, tell_unclosed, tell_unread, tell_unwritten, tell_waiting,
+    tell_why,
+};
 use gasday_archive::{Opener, Outcome, answer_to};
 use gasday_office::answer_office;
-use gasday_part::{Inquiry, Written, ask_text, last_of, of_fault, write_answer};
-use gasday_words::{Command, Order, Request, UsageFault, request_of};
+use gasday_part::{Inquiry, Written, ask_text, last_of, of_fault, summary_in, write_answer};
+use gasday_words::{Order, Request, UsageFault, request_of};
 use gd_replies::Reply;
 use gd_text_part::TextFault;
 use sqlite::{Alter, Connection, Error, FileStore};
@@ -49,6 +52,8 @@ struct Ran<S: Alter + Drop> {
     status: u8,
     last: Option<Reply>,
     file: Option<Connection<S>>,
+    /// What is told beside the rows, where they were the whole course of a gas day.
+    course: Option<Course>,
 }
 
 /// The exit status of an order whose file is closed so: 2 where what it kept or migrated is not in the file, which people are told.
@@ -56,7 +61,7 @@ fn closed(rt: &HostRuntime, order: Order<'_>, closed: Result<(), Error>, status:
     ensures { result ≡ status_closed (seen order.entry) closed status }
 {
     match (order, closed) {
-        (Order::ArchivedDay(_) | Order::LiveDay(_) | Order::Migrate(_), Err(error)) => {
+        (Order::ArchivedDay { .. } | Order::LiveDay(_) | Order::Migrate(_), Err(error)) => {
             tell_unclosed(rt, &error);
             2
         }
@@ -69,10 +74,11 @@ fn answer_slots<T: Threads + Wait + Clock + Sync, S: Alter + Drop>(
     threads: &T,
     alloc: Global,
     text: &[u8],
+    is_strict: bool,
 ) -> Outcome<S>
-    ensures { Tells (OrNoMemory (AnswersSlots text.now) result.archive) result.answer }
+    ensures { Tells (OrNoMemory (AnswersSlots is_strict text.now) result.archive) result.answer }
 {
-    Outcome::unopened(answer_office(threads, alloc, text))
+    Outcome::unopened(answer_office(threads, alloc, text, is_strict))
 }
 
 /// What an order is answered, over the bytes of its text. The threads are the runtime's, which has them in `main` alone.
@@ -88,7 +94,7 @@ fn answered<T: Threads + Wait + Clock + Sync, S: Alter + Drop, O: Opener<S>>(
         result.archive) result.answer }
 {
     match order {
-        Order::Text(Command::Office) => answer_slots(threads, alloc, text),
+        Order::Office { is_strict } => answer_slots(threads, alloc, text, is_strict),
         Order::Audit(_) => tell_audit(threads, alloc, opener.open(), false),
         Order::AuditEach(_) => tell_audit(threads, alloc, opener.open(), true),
         order => answer_to(threads, alloc, order, text, opener),
@@ -108,14 +114,26 @@ fn run_over<T: Threads + Wait + Clock + Sync, S: Alter + Drop, W: Write, O: Open
     ensures { CarriesOut S.Store (O.Opener.opens opener) (seen order.entry) text.now result.file
         (W.contents writer.old) (W.contents writer.new) result.status }
 {
-    let Outcome { answer, archive } = answered(threads, alloc, order, text, opener);
+    let Outcome {
+        answer,
+        archive,
+        repeats,
+    } = answered(threads, alloc, order, text, opener);
     let status = write_answer(alloc, writer, &answer);
     let last = last_of(&answer);
+    let course = match summary_in(&answer) {
+        Some(summary) => Some(Course { summary, repeats }),
+        None => {
+            drop(repeats);
+            None
+        }
+    };
     drop(answer);
     Ran {
         status,
         last,
         file: archive,
+        course,
     }
 }
 
@@ -137,14 +155,28 @@ struct Ended<'a, S: Alter + Drop> {
 
 /// Closes the file of an order that has ended, tells people why it didn't end well, and answers the exit status.
 fn end<D: Disk + Drop>(rt: &HostRuntime, order: Order<'_>, ended: Ended<'_, FileStore<D>>) -> u8 {
-    let Ran { status, last, file } = ended.ran;
+    let Ended {
+        ran,
+        text,
+        unwritten,
+    } = ended;
+    let Ran {
+        status,
+        last,
+        file,
+        course,
+    } = ran;
     let is_unopened = file.is_none();
     let status = closed(rt, order, close(file), status);
-    match (&ended.unwritten, last) {
+    match (&unwritten, &course) {
+        (None, Some(course)) => tell_course(rt, course),
+        _ => {}
+    }
+    match (&unwritten, last) {
         (Some(error), _) => tell_unwritten(rt, error),
         // (Whoever couldn't open the file has told why.)
         (None, Some(Reply::Store | Reply::Busy)) if is_unopened => {}
-        (None, Some(last)) if status != 0 => tell_why(rt, order, &ended.text, &last),
+        (None, Some(last)) if status != 0 => tell_why(rt, order, &text, &last),
         _ => {}
     }
     status
@@ -206,7 +238,8 @@ fn serve_lines<T: Threads + Sync, S: Alter + Drop, O: Opener<S>, R: Read + Drop>
     file: O,
 ) -> (Ran<S>, Option<io::Error>) {
     let mut writer = Noted::new(io::writer(rt));
-    let ran = serve_over(threads, rt.alloc(), reader, &mut writer, file);
+    let clock = ClockWitness::new(rt);
+    let ran = serve_over(threads, rt.alloc(), reader, &mut writer, clock, file);
     (ran, writer.take_error())
 }
 
@@ -225,12 +258,19 @@ fn serve_input<'a, T: Threads + Sync, S: Alter + Drop, O: Opener<S>>(
     file: O,
 ) -> Ended<'a, S> {
     tell_waiting(rt);
-    let (Ran { status, last, file }, unwritten) = serve_lines(threads, rt, rt.reader(), file);
+    let (ran, unwritten) = serve_lines(threads, rt, rt.reader(), file);
+    let Ran {
+        status,
+        last,
+        file,
+        course,
+    } = ran;
     Ended {
         ran: Ran {
             status,
             last: without_text(last),
             file,
+            course,
         },
         text: Text::empty(rt),
         unwritten,
@@ -301,6 +341,7 @@ fn ask_rows<'a, T: Threads + Sync, S: Alter + Drop>(
         status,
         last,
         file: None,
+        course: None,
     };
     Ended {
         ran,
@@ -346,6 +387,7 @@ fn failed<'a, S: Alter + Drop>(rt: &HostRuntime) -> Ended<'a, S> {
         status: 2,
         last: None,
         file: None,
+        course: None,
     };
     Ended {
         ran,

@@ -1,12 +1,17 @@
 //! What people are told on standard error, beside the rows of an answer.
 
 use crate::input::{Text, Unread};
+use gasday_archive::Repeated;
+use gasday_live::Witness;
 use gasday_words::{Command, Order};
-use gd_messages::{Source, message_of};
+use gd_archive::Repeat;
+use gd_messages::{Count, Source, message_of};
 use gd_replies::Reply;
+use gd_rounds::{Lateness, Summary};
 use gd_text_part::Form;
+use hex::encode;
 use sqlite::Error;
-use std::alloc::AllocError;
+use std::alloc::{AllocError, Global};
 use std::io;
 use std::io::{ErrorKind, IsTerminal};
 
@@ -70,6 +75,135 @@ pub(crate) fn tell_unclosed(rt: &HostRuntime, error: &Error) {
     }
 }
 
+/// What is told of the course of a gas day, or of the gas days of an office, beside its rows.
+#[derive(Drop)]
+pub(crate) struct Course {
+    pub(crate) summary: Summary,
+    /// The postings of which the archive had one of the same cycle, where there is an archive.
+    pub(crate) repeats: Option<Vec<Repeated>>,
+}
+
+/// Whoever serves calls as they come is told at once of those that come too late: of each freeze, and of the first call behind the end
+/// of the gas day.
+#[derive(Drop)]
+pub(crate) struct ClockWitness<'a> {
+    rt: &'a HostRuntime,
+    is_beyond: bool,
+}
+
+impl<'a> ClockWitness<'a> {
+    /// No call came too late yet.
+    pub(crate) fn new(rt: &'a HostRuntime) -> ClockWitness<'a> {
+        ClockWitness {
+            rt,
+            is_beyond: false,
+        }
+    }
+}
+
+impl Witness for ClockWitness<'_> {
+    fn see(&mut self, number: usize, lateness: Lateness) {
+        if lateness.is_late {
+            tell_event(self.rt, number, "freezes a cycle that is in effect already");
+        }
+        if lateness.is_beyond && !self.is_beyond {
+            self.is_beyond = true;
+            tell_event(
+                self.rt,
+                number,
+                "comes when the gas day is over; what comes behind it counts as made then",
+            );
+        }
+    }
+}
+
+/// Tells of an event that came too late.
+fn tell_event(rt: &HostRuntime, number: usize, what: &str) {
+    if let Ok(message) = format!(in rt.alloc();
+        "event {number} {what}; look at its moment, and at the clock that gave it"
+    ) {
+        tell(rt, message.as_str());
+    }
+}
+
+/// Tells what a gas day came to, and how what its archive had goes with what was published.
+pub(crate) fn tell_course(rt: &HostRuntime, course: &Course) {
+    tell_summary(rt, &course.summary);
+    if let Some(repeats) = &course.repeats {
+        for repeated in repeats.as_slice() {
+            tell_repeat(rt, repeated);
+        }
+    }
+}
+
+/// Tells how a posting that an archive had goes with the one that was published.
+fn tell_repeat(rt: &HostRuntime, repeated: &Repeated) {
+    let alloc = rt.alloc();
+    let cycle = repeated.cycle.number();
+    let message = match &repeated.found {
+        Some(Repeat::Same) => {
+            format!(in alloc; "cycle {cycle}: the archive has this very posting already")
+        }
+        Some(Repeat::Other { kept, published }) => told_other(alloc, cycle, kept, published),
+        None => format!(in alloc;
+            "cycle {cycle}: the archive has a posting already, and it can't be compared with what is published now"
+        ),
+    };
+    if let Ok(message) = message {
+        tell(rt, message.as_str());
+    }
+}
+
+/// What is told of another posting than was published, with the SHA-256 of both bodies.
+fn told_other(
+    alloc: Global,
+    cycle: u8,
+    kept: &[u8; 32],
+    published: &[u8; 32],
+) -> Result<String, AllocError> {
+    let (kept, published) = (encode(alloc, kept)?, encode(alloc, published)?);
+    format!(in alloc;
+        "cycle {cycle}: the archive has another posting, of SHA-256 {kept}; what is published now has {published}"
+    )
+}
+
+/// Tells what a gas day came to, and of calls that came later than they can have been meant.
+fn tell_summary(rt: &HostRuntime, summary: &Summary) {
+    let alloc = rt.alloc();
+    let (cycles, refused) = (
+        Count(summary.published, "cycle"),
+        Count(summary.refused, "call"),
+    );
+    let (declared, skipped, unreached) = (summary.declared, summary.skipped, summary.unreached);
+    if let Ok(message) = format!(in alloc;
+        "{cycles} published, {declared} declared impossible, {skipped} skipped, {unreached} never frozen; {refused} refused"
+    ) {
+        tell(rt, message.as_str());
+    }
+    tell_late(rt, summary);
+}
+
+/// Tells of freezes that came when their cycle was in effect already, and of calls behind the end of the gas day.
+fn tell_late(rt: &HostRuntime, summary: &Summary) {
+    let alloc = rt.alloc();
+    if summary.late > 0 {
+        let freezes = Count(summary.late, "freeze");
+        if let Ok(message) = format!(in alloc;
+            "{freezes} came when its cycle was in effect already; look at the moments, and at the clock that gave them"
+        ) {
+            tell(rt, message.as_str());
+        }
+    }
+    if summary.beyond > 0 {
+        let calls = Count(summary.beyond, "call");
+        if let Ok(message) = format!(in alloc;
+            "{calls} came when the gas day was over; what comes behind them counts as made then, so look at the moments, and at the clock that gave them"
+        ) {
+            tell(rt, message.as_str());
+        }
+    }
+}
+
 /// How the text of an order is read. Who audits or migrates an archive reads none, and that of an answer's check is read in parts.
 fn form_of(order: Order<'_>) -> Option<Form> {
     match order {
@@ -78,8 +212,10 @@ fn form_of(order: Order<'_>) -> Option<Form> {
         Order::Text(Command::CheckCut) => Some(Form::CheckCut),
         Order::Text(Command::Solve) => Some(Form::Solve),
         Order::Text(Command::Calendar) => Some(Form::Calendar),
-        Order::Text(Command::Day) | Order::ArchivedDay(_) | Order::LiveDay(_) => Some(Form::Day),
-        Order::Text(Command::Office) => Some(Form::Office),
+        Order::Text(Command::Day | Command::StrictDay)
+        | Order::ArchivedDay { .. }
+        | Order::LiveDay(_) => Some(Form::Day),
+        Order::Office { .. } => Some(Form::Office),
         Order::Question { .. } | Order::Carry(_) => Some(Form::Day),
         Order::CheckAnswer
         | Order::Audit(_)

@@ -1,5 +1,5 @@
 -- Postings are kept one after the other.
-use Rattle.std.proofs.Common.{◌≡◌, ◌≤◌, ◌<◌, ◌+◌, ℕ, zero, suc, max, true, false, List, [], ◌∷◌, ◌++◌, length, drop, get_or, Option, Some, None, IfSome, IsSome, All, refl, sym, subst, ◌∙◌, ap, append_assoc, inl, inr, arith}
+use Rattle.std.proofs.Common.{◌≡◌, ◌≤◌, ◌<◌, ◌+◌, ◌==◌, ℕ, zero, suc, max, true, false, Bool, List, [], ◌∷◌, ◌++◌, length, drop, get_or, Option, Some, None, IfSome, IsSome, All, refl, sym, subst, ◌∙◌, ap, append_assoc, inl, inr, arith}
 use Rattle.std.proofs.Math.Seq.{drop-cons}
 use Rattle.std.proofs.lemmas.Bool.{false≢true}
 use Rattle.std.proofs.lemmas.Grind.{flat_map-append}
@@ -7,39 +7,50 @@ use Rattle.std.proofs.lemmas.List.{append-nil}
 use Rattle.std.proofs.lemmas.List.Elements.{All-head, All-tail}
 use Rattle.std.proofs.lemmas.List.Sums.{fold-append}
 use Rattle.sqlite_trees.specs.declared.store.Store.{Ghosts}
-use Rattle.sqlite.specs.Held.{Held, state}
-use Rattle.gd_archive.specs.Calls.{Keeps}
+use Rattle.sqlite.specs.Held.{Held}
 use Rattle.gd_board.specs.Known.{Knowledge, StaysKnown, known_of}
 use Rattle.gd_board.specs.declared.posting.Posting.{Posting}
 use Rattle.gd_replies.specs.declared.reply.Reply.{Reply}
-use Rattle.gasday_archive.specs.Keeping.{KeepAnswer, KeepsAll, KeepsTold, IsKnownIn, IsThere, keep_rows, all_keep_rows, keep_status, answer_status, is_last}
+use Rattle.gd_archive.specs.declared.repeat.Repeat.TheVariants.{Same, Other}
+use Rattle.gasday_archive.specs.declared.keeps.KeepAnswer.{KeepAnswer}
+use Rattle.gasday_archive.specs.declared.keeps.KeepAnswer.TheVariants as keep_answer
+use Rattle.gasday_archive.specs.Keeping.{KeepsAll, KeepsTold, IsKnownIn, IsThere, Tries, keep_rows, all_keep_rows, keep_status, answer_status, is_last}
+
+-- what ends with 2 is last, for a strict gas day as for any
+pub last_by : (strict : Bool) (answer : KeepAnswer) → is_last answer ≡ (answer_status strict answer == 2)
+last_by strict keep_answer.Kept = refl
+last_by true (keep_answer.Before None) = refl
+last_by true (keep_answer.Before (Some Same)) = refl
+last_by true (keep_answer.Before (Some (Other kept published))) = refl
+last_by false (keep_answer.Before found) = refl
+last_by strict (keep_answer.Refused fault) = refl
 
 -- So many of these cycles are kept, and none ended it: what is kept of the others goes on from here.
-pub record SoFar {S : Type 0} (g : Ghosts S) (Is : ℕ → Posting → Type 0) (cycles : List ℕ) (i : ℕ) (old now : Held S) (former told : List Reply) (status : ℕ) : Type 0 where
+pub record SoFar {S : Type 0} (g : Ghosts S) (strict : Bool) (Is : ℕ → Posting → Type 0) (cycles : List ℕ) (i : ℕ) (old now : Held S) (former told : List Reply) (status : ℕ) : Type 0 where
   pub answers : List KeepAnswer
   pub goes_on : (more : List KeepAnswer) (new : Held S) → KeepsAll g Is (drop i cycles) now more new → KeepsAll g Is cycles old (answers ++ more) new
   pub rows : told ≡ former ++ all_keep_rows answers
-  pub ends : status ≡ keep_status answers
+  pub ends : status ≡ keep_status strict answers
 
-pub at_first : {S : Type 0} (g : Ghosts S) (Is : ℕ → Posting → Type 0) (cycles : List ℕ) (old : Held S) (former : List Reply) → SoFar g Is cycles 0 old old former former 0
-at_first g Is cycles old former = record { answers = []; goes_on = λ more new keeps. keeps; rows = sym (append-nil former); ends = refl }
+pub at_first : {S : Type 0} (g : Ghosts S) (strict : Bool) (Is : ℕ → Posting → Type 0) (cycles : List ℕ) (old : Held S) (former : List Reply) → SoFar g strict Is cycles 0 old old former former 0
+at_first g strict Is cycles old former = record { answers = []; goes_on = λ more new keeps. keeps; rows = sym (append-nil former); ends = refl }
 
 rows_more : (former told after : List Reply) (answers : List KeepAnswer) (answer : KeepAnswer) → told ≡ former ++ all_keep_rows answers → after ≡ told ++ keep_rows answer → after ≡ former ++ all_keep_rows (answers ++ answer ∷ [])
 rows_more former told after answers answer rows more =
     more ∙ ap (λ t. t ++ keep_rows answer) rows ∙ append_assoc former (all_keep_rows answers) (keep_rows answer)
     ∙ ap (λ t. former ++ t) (ap (λ t. all_keep_rows answers ++ t) (sym (append-nil (keep_rows answer))) ∙ sym (flat_map-append keep_rows answers (answer ∷ [])))
 
-status_more : (status after : ℕ) (answers : List KeepAnswer) (answer : KeepAnswer) → status ≡ keep_status answers → after ≡ max status (answer_status answer) → after ≡ keep_status (answers ++ answer ∷ [])
-status_more status after answers answer is more =
-    more ∙ ap (λ n. max n (answer_status answer)) is ∙ sym (fold-append (λ n (a : KeepAnswer). max n (answer_status a)) 0 answers (answer ∷ []))
+status_more : (strict : Bool) (status after : ℕ) (answers : List KeepAnswer) (answer : KeepAnswer) → status ≡ keep_status strict answers → after ≡ max status (answer_status strict answer) → after ≡ keep_status strict (answers ++ answer ∷ [])
+status_more strict status after answers answer is more =
+    more ∙ ap (λ n. max n (answer_status strict answer)) is ∙ sym (fold-append (λ n (a : KeepAnswer). max n (answer_status strict a)) 0 answers (answer ∷ []))
 
 next_place : (i : ℕ) → i + 1 ≡ suc i
 next_place i = omega arith
 
 -- a cycle's posting is kept, and the others may be
-pub one_more : {S : Type 0} (g : Ghosts S) (Is : ℕ → Posting → Type 0) (cycles : List ℕ) (i cycle : ℕ) (old now mid : Held S) (former told after : List Reply) (status next : ℕ) (posting : Posting) (answer : KeepAnswer) → i < length cycles → cycle ≡ get_or cycles i cycle → SoFar g Is cycles i old now former told status
-    → Is cycle posting → Keeps (state g now) (state g mid) posting answer → is_last answer ≡ false → after ≡ told ++ keep_rows answer → next ≡ max status (answer_status answer) → SoFar g Is cycles (i + 1) old mid former after next
-one_more g Is cycles i cycle old now mid former told after status next posting answer lt here sofar is keeps last rows ends = record {
+pub one_more : {S : Type 0} (g : Ghosts S) (strict : Bool) (Is : ℕ → Posting → Type 0) (cycles : List ℕ) (i cycle : ℕ) (old now mid : Held S) (former told after : List Reply) (status next : ℕ) (posting : Posting) (answer : KeepAnswer) → i < length cycles → cycle ≡ get_or cycles i cycle → SoFar g strict Is cycles i old now former told status
+    → Is cycle posting → Tries g now mid posting answer → is_last answer ≡ false → after ≡ told ++ keep_rows answer → next ≡ max status (answer_status strict answer) → SoFar g strict Is cycles (i + 1) old mid former after next
+one_more g strict Is cycles i cycle old now mid former told after status next posting answer lt here sofar is keeps last rows ends = record {
   answers = sofar.answers ++ answer ∷ [];
   goes_on = λ more new later.
       subst (λ answers. KeepsAll g Is cycles old answers new) (sym (append_assoc sofar.answers (answer ∷ []) more))
@@ -47,20 +58,20 @@ one_more g Is cycles i cycle old now mid former told after status next posting a
       (subst (λ rest. KeepsAll g Is rest now (answer ∷ more) new) (sym (drop-cons cycles i cycle lt))
       (posting, answer, more, mid, refl, subst (λ c. Is c posting) here is, keeps, inr (last, subst (λ n. KeepsAll g Is (drop n cycles) mid more new) (next_place i) later))));
   rows = rows_more former told after sofar.answers answer sofar.rows rows;
-  ends = status_more status next sofar.answers answer sofar.ends ends;
+  ends = status_more strict status next sofar.answers answer sofar.ends ends;
 }
 
 -- a cycle's posting is the last one that is kept or refused
-pub ended : {S : Type 0} (g : Ghosts S) (Is : ℕ → Posting → Type 0) (cycles : List ℕ) (i cycle : ℕ) (old now new : Held S) (former told after : List Reply) (status next : ℕ) (posting : Posting) (answer : KeepAnswer) → i < length cycles → cycle ≡ get_or cycles i cycle → SoFar g Is cycles i old now former told status
-    → Is cycle posting → Keeps (state g now) (state g new) posting answer → is_last answer ≡ true → after ≡ told ++ keep_rows answer → next ≡ max status (answer_status answer) → KeepsTold g Is cycles old new former after next
-ended g Is cycles i cycle old now new former told after status next posting answer lt here sofar is keeps last rows ends = record {
+pub ended : {S : Type 0} (g : Ghosts S) (strict : Bool) (Is : ℕ → Posting → Type 0) (cycles : List ℕ) (i cycle : ℕ) (old now new : Held S) (former told after : List Reply) (status next : ℕ) (posting : Posting) (answer : KeepAnswer) → i < length cycles → cycle ≡ get_or cycles i cycle → SoFar g strict Is cycles i old now former told status
+    → Is cycle posting → Tries g now new posting answer → is_last answer ≡ true → after ≡ told ++ keep_rows answer → next ≡ max status (answer_status strict answer) → KeepsTold g strict Is cycles old new former after next
+ended g strict Is cycles i cycle old now new former told after status next posting answer lt here sofar is keeps last rows ends = record {
   answers = sofar.answers ++ answer ∷ [];
   keeps =
       sofar.goes_on (answer ∷ []) new
       (subst (λ rest. KeepsAll g Is rest now (answer ∷ []) new) (sym (drop-cons cycles i cycle lt))
       (posting, answer, [], new, refl, subst (λ c. Is c posting) here is, keeps, inl (last, refl, refl)));
   rows = rows_more former told after sofar.answers answer sofar.rows rows;
-  ends = status_more status next sofar.answers answer sofar.ends ends;
+  ends = status_more strict status next sofar.answers answer sofar.ends ends;
 }
 
 none_left : (cycles : List ℕ) (i : ℕ) → length cycles ≤ i → drop i cycles ≡ []
@@ -70,8 +81,8 @@ none_left (c ∷ cycles) zero past = absurd (omega (arith, past))
 none_left (c ∷ cycles) (suc i) past = none_left cycles i (omega (arith, past))
 
 -- all are kept
-pub all_done : {S : Type 0} (g : Ghosts S) (Is : ℕ → Posting → Type 0) (cycles : List ℕ) (i : ℕ) (old new : Held S) (former told : List Reply) (status : ℕ) → length cycles ≤ i → SoFar g Is cycles i old new former told status → KeepsTold g Is cycles old new former told status
-all_done g Is cycles i old new former told status past sofar = record {
+pub all_done : {S : Type 0} (g : Ghosts S) (strict : Bool) (Is : ℕ → Posting → Type 0) (cycles : List ℕ) (i : ℕ) (old new : Held S) (former told : List Reply) (status : ℕ) → length cycles ≤ i → SoFar g strict Is cycles i old new former told status → KeepsTold g strict Is cycles old new former told status
+all_done g strict Is cycles i old new former told status past sofar = record {
   answers = sofar.answers;
   keeps =
       subst (λ answers. KeepsAll g Is cycles old answers new) (append-nil sofar.answers)
@@ -91,8 +102,8 @@ weaker g Is As (cycle ∷ cycles) old new answers all (posting, answer, more, mi
 weaker g Is As (cycle ∷ cycles) old new answers all (posting, answer, more, mid, are, is, kept, inr later) =
     (posting, answer, more, mid, are, All-head (Suffices Is As) cycle cycles all posting is, kept, inr (later.0, weaker g Is As cycles mid new more (All-tail (Suffices Is As) cycle cycles all) later.1))
 
-pub told_weaker : {S : Type 0} (g : Ghosts S) (Is As : ℕ → Posting → Type 0) (cycles : List ℕ) (old new : Held S) (former told : List Reply) (status : ℕ) → All (Suffices Is As) cycles → KeepsTold g Is cycles old new former told status → KeepsTold g As cycles old new former told status
-told_weaker g Is As cycles old new former told status all keeps = record {
+pub told_weaker : {S : Type 0} (g : Ghosts S) (strict : Bool) (Is As : ℕ → Posting → Type 0) (cycles : List ℕ) (old new : Held S) (former told : List Reply) (status : ℕ) → All (Suffices Is As) cycles → KeepsTold g strict Is cycles old new former told status → KeepsTold g strict As cycles old new former told status
+told_weaker g strict Is As cycles old new former told status all keeps = record {
   answers = keeps.answers;
   keeps = weaker g Is As cycles old new keeps.answers all keeps.keeps;
   rows = keeps.rows;

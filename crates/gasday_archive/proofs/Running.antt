@@ -12,6 +12,6 @@ whole : (day : Day) (calls : List Call) (rows : List Reply) (after : History) �
 whole day calls rows after runs holds = (length calls, after, subst (λ cs. Runs day [] cs rows after) (sym (take_all (length calls) calls (omega arith))) runs, holds)
 
 -- behind a refusal that told nothing more
-pub part_of_all : {V E : Type 0} (day : Day) (calls : List Call) (rows told : List Reply) (after : History) (r : Result V E) → Runs day [] calls rows after → Holds day after → OnErr r (told ≡ rows) → OnErr r (RunsInPart day [] calls told)
+pub part_of_all : {V E : Type 0} (day : Day) (calls : List Call) (rows told : List Reply) (after : History) (r : Result V E) → Runs day [] calls rows after → Holds day after → told ≡ rows → OnErr r (RunsInPart day [] calls told)
 part_of_all day calls rows told after (Ok v) runs holds same = tt
 part_of_all day calls rows told after (Err e) runs holds same = subst (RunsInPart day [] calls) (sym same) (whole day calls rows after runs holds)

@@ -1,5 +1,5 @@
 -- What is told where nothing is opened.
-use Rattle.std.proofs.Common.{◌≡◌, ◌≢◌, ℕ, List, Option, None, Result, Ok, Err, IfOk, refl, sym, subst, inl, inr}
+use Rattle.std.proofs.Common.{◌≡◌, ◌≢◌, ℕ, Bool, List, Option, None, Result, Ok, Err, IfOk, refl, sym, subst, inl, inr}
 use Rattle.sqlite.specs.Held.{Held}
 use Rattle.sqlite.specs.declared.error.Error.{Error}
 use Rattle.sqlite_trees.specs.declared.store.Store.{Ghosts}
@@ -38,11 +38,11 @@ told_so P Q left r so t = record { told = t.told; means = either t.told t.means;
 
 module _ {S : Type 0} (g : Ghosts S) (gives : Result (Held S) Error → Type 0) where
   -- a fault of a text in memory
-  pub bytes_refused : {X : Type 0} (view : X → List Row) (text : List ℕ) (f : TextFault) → TellsOfRows view form.Day text (Err f) → f ≢ fault.OutOfMemory → TellsBytes g gives text None (fault_answer f)
-  bytes_refused view text (fault.Row n c) blamed other = inl (blamed.0, subst (λ (o : Result (List Row) RowFault). TellsRows g gives o None (fault_answer (fault.Row n c))) (sym blamed.1) (refl, refl))
-  bytes_refused view text fault.TooLong blamed other = inr (blamed, refl, refl)
-  bytes_refused view text fault.ReadFailed blamed other = absurd blamed
-  bytes_refused view text fault.OutOfMemory blamed other = absurd (other refl)
+  pub bytes_refused : (strict : Bool) {X : Type 0} (view : X → List Row) (text : List ℕ) (f : TextFault) → TellsOfRows view form.Day text (Err f) → f ≢ fault.OutOfMemory → TellsBytes g gives strict text None (fault_answer f)
+  bytes_refused strict view text (fault.Row n c) blamed other = inl (blamed.0, subst (λ (o : Result (List Row) RowFault). TellsRows g gives strict o None (fault_answer (fault.Row n c))) (sym blamed.1) (refl, refl))
+  bytes_refused strict view text fault.TooLong blamed other = inr (blamed, refl, refl)
+  bytes_refused strict view text fault.ReadFailed blamed other = absurd blamed
+  bytes_refused strict view text fault.OutOfMemory blamed other = absurd (other refl)
 
 -- an answer to a text, for which nothing is opened
 pub alone : {S E : Type 0} (P : Told → Type 0) (left : Option (Held S)) (answer r : Result Answer E) → left ≡ None → r ≡ answer → IfOk answer (λ a. P (answer_seen a)) → Tells (OrNoMemory (λ (o : Option (Held S)) a. (o ≡ None) × P a) left) r

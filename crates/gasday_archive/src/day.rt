@@ -11,33 +11,37 @@ ghost use Rattle.gasday_part.specs.Answers.{no_memory};
 ghost use Rattle.gasday_archive.specs.Runs as spec;
 
 use crate::answer::of_store_fault;
-use crate::keeps::keep_published;
-use gasday_part::Answer;
+use crate::keeps::{Repeated, keep_published};
+use gasday_part::{Answer, course_status};
 use gd_archive::make;
 use gd_board::Board;
 use gd_book::Book;
 use gd_course::run;
 use gd_replies::Reply;
+use gd_rounds::{Summary, summary_of};
 use gd_text_part::Row;
 use sqlite::{Alter, Connection};
 use std::alloc::{AllocError, Global};
 use std::thread::Threads;
 
-/// Makes the calls of the rows on a new book, and keeps what it published. It appends to `told` what they give, and answers
-/// the exit status. The only error is want of memory: then nothing is kept, and `told` has what the first calls give.
+/// Makes the calls of the rows on a new book, and keeps what it published. It appends to `told` what they give, notes in `repeats` how
+/// what was kept before goes with what was published, and answers the exit status, with what the gas day came to. The only error is
+/// want of memory: then nothing is kept, and `told` has what the first calls give.
 fn run_and_keep<S: Alter>(
     rt: &(impl Threads + Sync),
     alloc: Global,
     conn: &mut Connection<S>,
     book: &mut Book,
     rows: &[Row],
+    is_strict: bool,
     told: &mut Vec<Reply>,
-) -> Result<u8, AllocError>
+    repeats: &mut Vec<Repeated>,
+) -> Result<(u8, Summary), AllocError>
     requires new { book.old.history ≡ [] }
     requires pass { AllPass book.old.day.holdings.pipeline (calls_of rows.now) }
     requires empty { told.old.items ≡ [] }
-    ensures kept { HasCleanDisk (state S.Store conn.new) → IfOk result (spec.KeepsRun
-        S.Store book.old.day (calls_of rows.now) conn.old conn.new told.new.items) }
+    ensures kept { HasCleanDisk (state S.Store conn.new) → IfOk result (λ ended.
+        spec.KeepsRun S.Store is_strict book.old.day (calls_of rows.now) conn.old conn.new told.new.items ended.0) }
     ensures clean { HasCleanDisk (state S.Store conn.new) → HasCleanDisk (state S.Store conn.old) }
     ensures short { OnErr result (conn.new ≡ conn.old) }
     ensures part { OnErr result (RunsInPart book.old.day [] (calls_of rows.now) told.new.items) }
@@ -45,7 +49,11 @@ fn run_and_keep<S: Alter>(
     let board = Board::new(alloc);
     let mut note = board.note();
     run(rt, alloc, book, &board, &mut note, rows, told)?;
-    keep_published(conn, alloc, book, &board, &mut note, told)
+    let summary = summary_of(book, told.as_slice());
+    let status = keep_published(
+        conn, alloc, book, &board, &mut note, is_strict, told, repeats,
+    )?;
+    Ok((status.max(course_status(is_strict, &summary)), summary))
 }
 
 /// Makes the calls of the rows on a new book, and keeps what it published, and tells both.
@@ -55,21 +63,28 @@ fn tell_calls<S: Alter>(
     conn: &mut Connection<S>,
     book: &mut Book,
     rows: &[Row],
+    is_strict: bool,
+    repeats: &mut Vec<Repeated>,
 ) -> Answer
     requires new { book.old.history ≡ [] }
     requires pass { AllPass book.old.day.holdings.pipeline (calls_of rows.now) }
-    ensures kept { HasCleanDisk (state S.Store conn.new) → spec.TellsKept S.Store
+    ensures kept { HasCleanDisk (state S.Store conn.new) → spec.TellsKept S.Store is_strict
         book.old.day (calls_of rows.now) conn.old conn.new (answer_seen result) }
     ensures clean { HasCleanDisk (state S.Store conn.new) → HasCleanDisk (state S.Store conn.old) }
 {
     let mut replies = Vec::new(alloc);
-    match run_and_keep(rt, alloc, conn, book, rows, &mut replies) {
-        Ok(status) => Answer::whole(replies, status),
-        Err(_) => Answer {
-            replies,
-            status: 2,
-            short: true,
-        },
+    match run_and_keep(
+        rt,
+        alloc,
+        conn,
+        book,
+        rows,
+        is_strict,
+        &mut replies,
+        repeats,
+    ) {
+        Ok((status, summary)) => Answer::summed(replies, status, summary),
+        Err(_) => Answer::cut_short(replies),
     }
 }
 
@@ -80,14 +95,16 @@ pub(crate) fn tell_in_archive<S: Alter>(
     conn: &mut Connection<S>,
     book: &mut Book,
     rows: &[Row],
+    is_strict: bool,
+    repeats: &mut Vec<Repeated>,
 ) -> Result<Answer, AllocError>
     requires new { book.old.history ≡ [] }
     requires pass { AllPass book.old.day.holdings.pipeline (calls_of rows.now) }
-    ensures made { spec.Tells (λ a. HasCleanDisk (state S.Store conn.new) → spec.TellsMade S.Store
+    ensures made { spec.Tells (λ a. HasCleanDisk (state S.Store conn.new) → spec.TellsMade S.Store is_strict
         book.old.day (calls_of rows.now) conn.old conn.new a) result }
 {
     match make(conn) {
-        Ok(()) => Ok(tell_calls(rt, alloc, conn, book, rows)),
+        Ok(()) => Ok(tell_calls(rt, alloc, conn, book, rows, is_strict, repeats)),
         Err(fault) => of_store_fault(alloc, fault),
     }
 }

@@ -1,7 +1,5 @@
 //! What an order is answered.
 
-ghost use Rattle.std.specs.Prelude.{◌≢◌};
-ghost use Rattle.gasday_words.specs.Ordered as ordered;
 ghost use Rattle.gasday_words.specs.Ordered.{seen};
 ghost use Rattle.gasday_archive.specs.Orders as orders;
 ghost use Rattle.gasday_archive.specs.Runs.{OrNoMemory, Tells};
@@ -20,15 +18,14 @@ fn answer_command<S: Alter + Drop>(
     command: Command,
     text: &[u8],
 ) -> Outcome<S>
-    requires { command ≢ Command.Office }
     ensures { Tells (OrNoMemory (orders.AnswersCommand command text.now) result.archive) result.answer }
 {
     Outcome::unopened(answer_of(rt, alloc, command, text))
 }
 
 /// What an order is answered, and the archive that it opened: its exit status is 0 where the answer is good, 1 where a schedule,
-/// a price or a cut is broken, a posting was kept before or an archive is not to be migrated, and 2 after a fault
-/// of the text, the archive or memory. Who migrates reads no text.
+/// a price or a cut is broken, a posting was kept before, a strict gas day didn't come to what is in order or an archive is not to be
+/// migrated, and 2 after a fault of the text, the archive or memory. Who migrates reads no text.
 ///
 /// The opener gives the archive of the order's FILE. It is called once at most, and only for an order with a FILE: for a gas day
 /// only once its text and its calendar are good. What it gave comes back as it is left. It asks for an order other than
@@ -40,16 +37,16 @@ pub fn answer_to<S: Alter + Drop, O: Opener<S>>(
     text: &[u8],
     opener: O,
 ) -> Outcome<S>
-    requires command { seen order ≢ ordered.Text Command.Office }
-    requires answered { orders.IsAnswered (seen order) }
+    requires { orders.IsAnswered (seen order) }
     ensures { Tells (orders.Answers S.Store (O.Opener.opens opener) (seen order.entry) text.now
         result.archive) result.answer }
 {
     match order {
         Order::Text(command) => answer_command(rt, alloc, command, text),
-        Order::ArchivedDay(_) => tell_day(rt, alloc, text, opener),
+        Order::ArchivedDay { is_strict, .. } => tell_day(rt, alloc, text, is_strict, opener),
         Order::Migrate(_) => tell_migration(alloc, opener.open()),
         Order::CheckAnswer
+        | Order::Office { .. }
         | Order::Audit(_)
         | Order::AuditEach(_)
         | Order::LiveDay(_)

@@ -9,4 +9,5 @@ mod opened;
 
 pub use answer::of_no_store;
 pub use engine::answer_to;
+pub use keeps::Repeated;
 pub use opened::{Opener, Outcome, audit_archive, audit_postings};

@@ -10,6 +10,7 @@ ghost use Rattle.gasday_archive.specs.Runs as spec;
 
 use crate::answer::{of_audit, of_each, of_migration, of_no_store, of_store_fault};
 use crate::day::tell_in_archive;
+use crate::keeps::Repeated;
 use gasday_part::{Answer, calendar_of, of_fault, of_no_calendar};
 use gd_archive::{audit, audit_each, migrate};
 use gd_book::Book;
@@ -38,6 +39,8 @@ pub trait Opener<S: Alter + Drop>: Drop {
 pub struct Outcome<S: Alter + Drop> {
     pub answer: Result<Answer, AllocError>,
     pub archive: Option<Connection<S>>,
+    /// The postings of which the archive had one of the same book and cycle, where a gas day was kept.
+    pub repeats: Option<Vec<Repeated>>,
 }
 
 impl<S: Alter + Drop> Outcome<S> {
@@ -49,6 +52,7 @@ impl<S: Alter + Drop> Outcome<S> {
         Outcome {
             answer,
             archive: None,
+            repeats: None,
         }
     }
 }
@@ -96,6 +100,7 @@ pub(crate) fn tell_migration<S: Alter + Drop>(
     Outcome {
         answer: of_migration(alloc, carried),
         archive: Some(conn),
+        repeats: None,
     }
 }
 
@@ -106,19 +111,22 @@ fn tell_book<S: Alter + Drop>(
     opened: Result<Connection<S>, Error>,
     book: &mut Book,
     rows: &[Row],
+    is_strict: bool,
 ) -> Outcome<S>
     requires new { book.old.history ≡ [] }
     requires pass { AllPass book.old.day.holdings.pipeline (calls_of rows.now) }
-    ensures { spec.Tells (spec.TellsOf S.Store (spec.TellsMade S.Store book.old.day (calls_of rows.now))
+    ensures { spec.Tells (spec.TellsOf S.Store (spec.TellsMade S.Store is_strict book.old.day (calls_of rows.now))
         opened result.archive) result.answer }
 {
     let Ok(mut conn) = opened else {
         return Outcome::unopened(of_no_store(alloc));
     };
-    let answer = tell_in_archive(rt, alloc, &mut conn, book, rows);
+    let mut repeats = Vec::new(alloc);
+    let answer = tell_in_archive(rt, alloc, &mut conn, book, rows, is_strict, &mut repeats);
     Outcome {
         answer,
         archive: Some(conn),
+        repeats: Some(repeats),
     }
 }
 
@@ -128,10 +136,11 @@ fn tell_text<S: Alter + Drop, O: Opener<S>>(
     alloc: Global,
     text: DayText,
     rows: &[Row],
+    is_strict: bool,
     opener: O,
 ) -> Outcome<S>
     requires pass { AllPass text.contracts.pipeline (calls_of rows.now) }
-    ensures { spec.Tells (spec.OrNoMemory (spec.TellsDate S.Store (O.Opener.opens opener) rows.now (record {
+    ensures { spec.Tells (spec.OrNoMemory (spec.TellsDate S.Store (O.Opener.opens opener) is_strict rows.now (record {
       date = text.date;
       zone = text.zone;
       book = text.book;
@@ -149,7 +158,7 @@ fn tell_text<S: Alter + Drop, O: Opener<S>>(
     match calendar_of(alloc, date, &zone) {
         Ok(calendar) => match Book::open(alloc, book, contracts, calendar, carry) {
             Ok(mut book) => {
-                let told = tell_book(rt, alloc, opener.open(), &mut book, rows);
+                let told = tell_book(rt, alloc, opener.open(), &mut book, rows, is_strict);
                 drop(book);
                 told
             }
@@ -173,29 +182,31 @@ fn tell_rows<S: Alter + Drop, O: Opener<S>>(
     rt: &(impl Threads + Sync),
     alloc: Global,
     rows: &[Row],
+    is_strict: bool,
     opener: O,
 ) -> Outcome<S>
-    ensures { spec.Tells (spec.OrNoMemory (spec.TellsDay S.Store (O.Opener.opens opener) rows.now
+    ensures { spec.Tells (spec.OrNoMemory (spec.TellsDay S.Store (O.Opener.opens opener) is_strict rows.now
         (opened_of rows.now)) result.archive) result.answer }
 {
     match day_text_of(alloc, rows) {
-        Ok(text) => tell_text(rt, alloc, text, rows, opener),
+        Ok(text) => tell_text(rt, alloc, text, rows, is_strict, opener),
         Err(fault) => Outcome::unopened(of_fault(alloc, fault)),
     }
 }
 
-/// The course of the gas day of these bytes, in the archive that the opener gives.
+/// The course of the gas day of these bytes, a strict one or any, in the archive that the opener gives.
 pub(crate) fn tell_day<S: Alter + Drop, O: Opener<S>>(
     rt: &(impl Threads + Sync),
     alloc: Global,
     text: &[u8],
+    is_strict: bool,
     opener: O,
 ) -> Outcome<S>
-    ensures { spec.Tells (spec.OrNoMemory (spec.TellsBytes S.Store (O.Opener.opens opener) text.now)
+    ensures { spec.Tells (spec.OrNoMemory (spec.TellsBytes S.Store (O.Opener.opens opener) is_strict text.now)
         result.archive) result.answer }
 {
     match rows_in(alloc, Form::Day, text) {
-        Ok(rows) => tell_rows(rt, alloc, rows.as_slice(), opener),
+        Ok(rows) => tell_rows(rt, alloc, rows.as_slice(), is_strict, opener),
         Err(fault) => Outcome::unopened(of_fault(alloc, fault)),
     }
 }

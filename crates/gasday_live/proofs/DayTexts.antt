@@ -1,5 +1,5 @@
 -- The pieces of a book are the text of a day.
-use Rattle.std.proofs.Common.{◌≡◌, inl, ℕ, List, [], ◌∷◌, ◌++◌, refl, sym, ap, subst}
+use Rattle.std.proofs.Common.{◌≡◌, inl, ℕ, false, List, [], ◌∷◌, ◌++◌, refl, sym, ap, subst}
 use Rattle.gd_text_part.specs.Texts.{IsWithin}
 use Rattle.gd_day.specs.Calls.{calls_of}
 use Rattle.gd_day.specs.Opening.{Opened}
@@ -28,7 +28,7 @@ answered text told o moments day h calendar is run holds within =
     let a : Told = record { replies = run.replies; status = 0 } in
     let runs = subst (λ (d : Day). Runs d [] (calls_of run.rows) run.replies h) is run.runs in
     let held = subst (λ (d : Day). Holds d h) is holds in
-    inl (within, subst (λ r. AnswersText (AnswersRows command.Day) r a) (sym run.reads) (subst (λ r. TellsDay run.rows r a) (sym run.opens) (inl (moments, calendar, inl (run.replies, h, runs, held, refl)))))
+    inl (within, subst (λ r. AnswersText (AnswersRows command.Day) r a) (sym run.reads) (subst (λ r. TellsDay false run.rows r a) (sym run.opens) (inl (moments, calendar, inl (run.replies, h, runs, held, refl)))))
 
 -- the opening and the other pieces of a book
 day_of : CallsFollow → (ps : List Piece) (day : Day) (h : History) → (book : IsBook ps day h) → Holds day h → IsWithin (rows_text ((book.opening, []) ∷ book.rest)) → IsDay ((book.opening, []) ∷ book.rest)

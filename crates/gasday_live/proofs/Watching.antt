@@ -27,7 +27,7 @@ told_alone old new y told kept adds told_is kept_is =
     rw (more, replies, same_count kept (length y.replies))
 
 -- a line whose fault is known by what was told and not kept
-pub watched_gives : (s t : Watched) (line : List ℕ) (old new : Yield) (told kept : ℕ) (b : Bool) → t.has_fault ≡ (s.has_fault || b) → told ≡ length old.told → kept ≡ length old.replies
+pub watched_gives : {V : Type 0} (s t : Watched V) (line : List ℕ) (old new : Yield) (told kept : ℕ) (b : Bool) → t.has_fault ≡ (s.has_fault || b) → told ≡ length old.told → kept ≡ length old.replies
     → b ≡ ((length new.replies == kept) && nat_lt 1 (length new.told - told)) → (y : Yield) × Gives (at_desk s.desk) line (at_desk t.desk) y × Adds old new y → (y : Yield) × WatchedGives s line t y × Adds old new y
 watched_gives s t line old new told kept b fault told_is kept_is is (y, gives, adds) =
     (y, record { gives = gives; fault = fault ∙ ap (λ x. s.has_fault || x) (is ∙ told_alone old new y told kept adds told_is kept_is) }, adds)

@@ -15,6 +15,6 @@ abbrev pub any_fault : List Yield → Bool
 any_fault ys = list_any is_fault ys
 
 -- The line gives the desk this, and whether a row was faulty is known behind it.
-pub record WatchedGives (s : Watched) (line : List ℕ) (t : Watched) (y : Yield) : Type 0 where
+pub record WatchedGives {V : Type 0} (s : Watched V) (line : List ℕ) (t : Watched V) (y : Yield) : Type 0 where
   pub gives : Gives (at_desk s.desk) line (at_desk t.desk) y
   pub fault : t.has_fault ≡ (s.has_fault || is_fault y)

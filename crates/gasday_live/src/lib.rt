@@ -22,3 +22,4 @@ pub use laws::{book_is_day, kept_book_is_day, served_book_is_day};
 pub use reading::read_book;
 pub use serving::serve_book;
 pub use text::{print_book, write_text};
+pub use watched::Witness;

@@ -7,7 +7,7 @@ ghost use Rattle.gd_live.specs.Seen.{at_desk};
 ghost use Rattle.gasday_live.specs.Runs.{Found, IsBegun, ComesToEnd, Stops};
 
 use crate::laws::a_book_grows;
-use crate::watched::Watched;
+use crate::watched::{Watched, Witness};
 use gd_live::Desk;
 use gd_serving::{Failure, Finish, serve};
 use sqlite::{Alter, Connection};
@@ -23,7 +23,7 @@ pub(crate) struct Ending {
 }
 
 /// Serves what a reader has left, line by line.
-fn serve_reader<S: Alter, R: Read, W: Write>(
+fn serve_reader<S: Alter, R: Read, W: Write, V: Witness>(
     rt: &(impl Threads + Sync),
     alloc: Global,
     conn: &mut Connection<S>,
@@ -31,6 +31,7 @@ fn serve_reader<S: Alter, R: Read, W: Write>(
     next: u32,
     reader: &mut R,
     writer: &mut W,
+    witness: V,
 ) -> Result<Ending, Failure>
     ensures ended { (found : Found) → IsBegun found next (at_desk desk) (state S.Store conn.old)
         → IfOk result (λ it. IfSome (R.remaining reader.old) (λ text. ComesToEnd found (at_desk desk) text
@@ -41,7 +42,7 @@ fn serve_reader<S: Alter, R: Read, W: Write>(
     ensures clean { HasCleanDisk (state S.Store conn.new) → HasCleanDisk (state S.Store conn.old) }
 {
     a_book_grows();
-    let mut watched = Watched::new(desk);
+    let mut watched = Watched::new(desk, witness);
     let ended = serve(rt, alloc, conn, &mut watched, next, reader, writer);
     let has_fault = watched.has_fault();
     drop(watched);
@@ -52,7 +53,7 @@ fn serve_reader<S: Alter, R: Read, W: Write>(
 }
 
 /// Serves these bytes and then what a reader has left, line by line.
-pub(crate) fn serve_lines<S: Alter, R: Read + Drop, W: Write>(
+pub(crate) fn serve_lines<S: Alter, R: Read + Drop, W: Write, V: Witness>(
     rt: &(impl Threads + Sync),
     alloc: Global,
     conn: &mut Connection<S>,
@@ -61,6 +62,7 @@ pub(crate) fn serve_lines<S: Alter, R: Read + Drop, W: Write>(
     bytes: &[u8],
     reader: R,
     writer: &mut W,
+    witness: V,
 ) -> Result<Ending, Failure>
     ensures ended { (found : Found) → IsBegun found next (at_desk desk) (state S.Store conn.old)
         → IfOk result (λ it. IfSome (R.remaining reader) (λ rest. ComesToEnd found (at_desk desk) (bytes.now ++ rest)
@@ -71,5 +73,5 @@ pub(crate) fn serve_lines<S: Alter, R: Read + Drop, W: Write>(
     ensures clean { HasCleanDisk (state S.Store conn.new) → HasCleanDisk (state S.Store conn.old) }
 {
     let mut lines = bytes.chain(reader);
-    serve_reader(rt, alloc, conn, desk, next, &mut lines, writer)
+    serve_reader(rt, alloc, conn, desk, next, &mut lines, writer, witness)
 }

@@ -2,8 +2,9 @@
 
 use crate::disks::{Disks, Work, behind};
 use crate::streams::{End, ShortWriter, writer_of};
-use gasday_live::{audit_book, print_book, serve_book};
+use gasday_live::{Witness, audit_book, print_book, serve_book};
 use gasday_part::write_answer;
+use gd_rounds::Lateness;
 use sqlite::{Alter, Connection};
 use std::alloc::Global;
 use std::io::Read;
@@ -17,6 +18,14 @@ pub(crate) struct Service<'a> {
     end: End,
     pub(crate) writer: ShortWriter,
     pub(crate) status: u8,
+}
+
+/// A witness who looks at nothing.
+#[derive(Drop)]
+struct Nobody;
+
+impl Witness for Nobody {
+    fn see(&mut self, _number: usize, _lateness: Lateness) {}
 }
 
 /// Serves parts and an end, to a writer that takes so many bytes.
@@ -38,7 +47,7 @@ impl<'a> Work for Service<'a> {
     ) -> bool {
         let [first, second, third] = self.parts;
         let lines = first.chain(second).chain(third).chain(self.end);
-        self.status = serve_book(rt, alloc, conn, lines, &mut self.writer).status;
+        self.status = serve_book(rt, alloc, conn, lines, &mut self.writer, Nobody).status;
         true
     }
 }

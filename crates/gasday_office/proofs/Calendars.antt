@@ -1,5 +1,5 @@
 -- The calendars of gas days, one after the other.
-use Rattle.std.proofs.Common.{◌≡◌, ◌∙◌, ℕ, ◌+◌, ◌<◌, zero, suc, List, [], ◌∷◌, ◌++◌, length, take, get_or, map, Some, option_map, Result, Ok, Err, IfOk, refl, sym, ap, subst, inl, inr, arith}
+use Rattle.std.proofs.Common.{◌≡◌, ◌∙◌, ℕ, ◌+◌, ◌<◌, zero, suc, Bool, List, [], ◌∷◌, ◌++◌, length, take, get_or, map, Some, option_map, Result, Ok, Err, IfOk, refl, sym, ap, subst, inl, inr, arith}
 use Rattle.std.specs.List.{All, AllZip, slice_get}
 use Rattle.std.proofs.lemmas.List.{map-append, take_more, take-map, length-map}
 use Rattle.std.proofs.lemmas.Option.{slice_get-map}
@@ -18,10 +18,10 @@ use Rattle.gasday_part.specs.Answers.{ExplainsDay}
 use Rattle.gasday_part.specs.declared.day.DayFault.{DayFault}
 use Rattle.gasday_office.specs.Offices.{IsCalendarFor, HasCalendar, IsOpenedWith, LacksCalendar, TellsPhases, TellsDays}
 
-there : (days : List DayText) (i : ℕ) (d : DayText) → i < length days → d ≡ get_or days i d → slice_get days i ≡ Some d
-there [] i d below is = elim below [ ]
-there (x ∷ days) zero d below is = ap (λ (y : DayText). Some y) (sym is)
-there (x ∷ days) (suc i) d below is = let rest : i < length days = omega (arith, below) in there days i d rest is
+pub there : {X : Type 0} (xs : List X) (i : ℕ) (x : X) → i < length xs → x ≡ get_or xs i x → slice_get xs i ≡ Some x
+there [] i x below is = elim below [ ]
+there (y ∷ xs) zero x below is = ap (λ (z : _). Some z) (sym is)
+there (y ∷ xs) (suc i) x below is = let rest : i < length xs = omega (arith, below) in there xs i x rest is
 
 -- this day is the first that has no calendar
 pub lacks_at : (days : List DayText) (i : ℕ) (d : DayText) (f : DayFault) → i < length days → d ≡ get_or days i d
@@ -64,13 +64,13 @@ pipelines_are [] = refl
 pipelines_are (d ∷ days) = ap (λ (ps : List Pipeline). d.contracts.pipeline ∷ ps) (pipelines_are days)
 
 -- what a run of the phases tells, by other names of the slots and the pipelines
-pub tells_days : {E : Type 0} (r : Result Answer E) (days : List DayText) (books : List Day) (slots : ℕ) (texts : List Round) (phases : List Phase) (rows : List Row)
+pub tells_days : (strict : Bool) {E : Type 0} (r : Result Answer E) (days : List DayText) (books : List Day) (slots : ℕ) (texts : List Round) (phases : List Phase) (rows : List Row)
     → AllZip IsOpenedWith (map opened days) books → texts ≡ phases_of rows
     → map seen_phase phases ≡ map (asked_phase (pipelines days)) texts → slots ≡ length days
-    → IfOk r (λ a. TellsPhases books slots phases (answer_seen a)) → IfOk r (λ a. TellsDays rows (map opened days) (answer_seen a))
-tells_days (Err e) days books slots texts phases rows own read asked many tells = tt
-tells_days (Ok a) days books slots texts phases rows own read asked many tells =
+    → IfOk r (λ a. TellsPhases strict books slots phases (answer_seen a)) → IfOk r (λ a. TellsDays strict rows (map opened days) (answer_seen a))
+tells_days strict (Err e) days books slots texts phases rows own read asked many tells = tt
+tells_days strict (Ok a) days books slots texts phases rows own read asked many tells =
     let same : map seen_phase phases ≡ map (asked_phase (map (λ o. o.holdings.pipeline) (map opened days))) (phases_of rows) =
     asked ∙ ap (map (asked_phase (pipelines days))) read ∙ ap (λ (ps : List Pipeline). map (asked_phase ps) (phases_of rows)) (pipelines_are days) in
     let long : slots ≡ length (map opened days) = many ∙ sym (length-map days opened) in
-    inl (books, own, (phases, same, subst (λ (n : ℕ). TellsPhases books n phases (answer_seen a)) long tells))
+    inl (books, own, (phases, same, subst (λ (n : ℕ). TellsPhases strict books n phases (answer_seen a)) long tells))

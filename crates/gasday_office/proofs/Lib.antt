@@ -1,2 +1,3 @@
 mod OpenedBooks
 mod Calendars
+mod Ends

@@ -1,8 +1,11 @@
 -- What the text of an office is answered.
-use Rattle.std.specs.Prelude.{◌≡◌, ◌≢◌, ◌⊎◌, ℕ, Bool, List, [], ◌∷◌, ◌++◌, length, map, take, slice_get, Some, Result, Ok, Err, if◌then◌else◌}
-use Rattle.std.specs.List.{All, AllZip}
+use Rattle.std.specs.Prelude.{◌≡◌, ◌≢◌, ◌⊎◌, ℕ, ◌+◌, ◌==◌, ◌&&◌, ◌||◌, Bool, not, List, [], ◌∷◌, ◌++◌, length, map, take, slice_get, Some, Result, Ok, Err, if◌then◌else◌}
+use Rattle.std.specs.List.{All, AllZip, list_all}
 use Rattle.gd_day.specs.Opening.{Opened}
 use Rattle.gd_machine.specs.Day.{Day}
+use Rattle.gd_machine.specs.Headline.{IsHistoryOf}
+use Rattle.gd_machine.specs.History.{History}
+use Rattle.gd_office_part.specs.Days.{IsDayOf}
 use Rattle.gd_office_text.specs.Calls.{seen_phase, asked_phase}
 use Rattle.gd_office_text.specs.Days.{days_of}
 use Rattle.gd_office_text.specs.Phases.{phases_of}
@@ -10,6 +13,8 @@ use Rattle.gd_office_part.specs.declared.threads.Phase.{Phase}
 use Rattle.gd_office_run.specs.RunRows.{TellsRun, EndsEarly}
 use Rattle.gd_replies.specs.declared.reply.Reply.{Reply}
 use Rattle.gd_replies.specs.declared.reply.Reply.TheVariants as reply
+use Rattle.gd_rounds.specs.Summaries as came
+use Rattle.gd_rounds.specs.declared.summary.Summary.{Summary}
 use Rattle.gd_text_part.specs.declared.kind.Form.TheVariants as form
 use Rattle.gd_text_part.specs.declared.fault.TextFault.{TextFault}
 use Rattle.gd_text_part.specs.declared.row.Row.{Row}
@@ -39,34 +44,51 @@ LacksCalendar days f =
 abbrev pub EndsRun : Reply → Type 0
 EndsRun r = (r ≡ no_memory) ⊎ (r ≡ reply.NoThread) ⊎ (r ≡ reply.TooMany)
 
-abbrev pub status_of : Bool → ℕ
-status_of good = if good then 0 else 1
+-- the book of the slot of this number has these opening values and this history
+abbrev pub IsEnd : List Day → ℕ → Day × History → Type 0
+IsEnd books slot p = IsDayOf books slot p.0 × IsHistoryOf p.0 p.1
 
--- A run of these phases on books with these opening values is told, and how each slot ends, with status 0 where all are
--- reconciled, and else 1. Or it ended early, and a run of the first phases is told, and why, with status 2.
-abbrev pub TellsPhases : List Day → ℕ → List Phase → Told → Type 0
-TellsPhases books slots phases a =
-    ((rows : List Reply) × (good : Bool) × TellsRun books slots phases rows good × (a ≡ record { replies = rows; status = status_of good }))
+-- what a gas day came to, by its history alone
+abbrev pub day_summary : Day × History → Summary
+day_summary p = came.summary_of p.0.moments p.1 []
+
+-- Each slot's gas day came to what is in order, by some history of its own book, and no row tells that a call was refused; or it is not so.
+pub record IsOrder (books : List Day) (slots : ℕ) (rows : List Reply) (good : Bool) : Type 0 where
+  pub ends : List (Day × History)
+  pub count : length ends ≡ slots
+  pub own : (k : ℕ) (p : Day × History) → slice_get ends k ≡ Some p → IsEnd books (k + 1) p
+  pub is : good ≡ (came.refused rows == 0) && list_all (λ p. came.is_in_order (day_summary p)) ends
+
+-- 0 where all slots are reconciled, and, of a strict office, the run came to what is in order
+abbrev pub run_status : Bool → Bool → Bool → ℕ
+run_status strict reconciled good = if reconciled && (good || not strict) then 0 else 1
+
+-- A run of these phases on books with these opening values is told, and how each slot ends, with the status of that. Or it ended
+-- early, and a run of the first phases is told, and why, with status 2.
+abbrev pub TellsPhases : Bool → List Day → ℕ → List Phase → Told → Type 0
+TellsPhases strict books slots phases a =
+    ((rows : List Reply) × (reconciled good : Bool) × TellsRun books slots phases rows reconciled × IsOrder books slots rows good
+    × (a ≡ record { replies = rows; status = run_status strict reconciled good }))
     ⊎ ((rows : List Reply) × (last : Reply) × EndsEarly books slots phases rows × EndsRun last
     × (a ≡ record { replies = rows ++ last ∷ []; status = 2 }))
 
 -- Where each gas day has a calendar, a run of the phases that the rows ask for, each call on the pipeline of its slot, and the
 -- book of each slot opened with what its block says; else the first gas day that has none is told.
-abbrev pub TellsDays : List Row → List Opened → Told → Type 0
-TellsDays rows days a =
+abbrev pub TellsDays : Bool → List Row → List Opened → Told → Type 0
+TellsDays strict rows days a =
     ((books : List Day) × AllZip IsOpenedWith days books
     × ((phases : List Phase) × (map seen_phase phases ≡ map (asked_phase (map (λ d. d.holdings.pipeline) days)) (phases_of rows))
-    × TellsPhases books (length days) phases a))
+    × TellsPhases strict books (length days) phases a))
     ⊎ ((f : DayFault) × (f ≢ no.OutOfMemory) × LacksCalendar days f × (a ≡ refused (no_calendar f)))
 
-abbrev pub AnswersDays : List Row → Result (List Opened) TextFault → Told → Type 0
-AnswersDays rows (Ok days) a = TellsDays rows days a
-AnswersDays rows (Err f) a = a ≡ fault_answer f
+abbrev pub AnswersDays : Bool → List Row → Result (List Opened) TextFault → Told → Type 0
+AnswersDays strict rows (Ok days) a = TellsDays strict rows days a
+AnswersDays strict rows (Err f) a = a ≡ fault_answer f
 
--- What the rows of an office's text are answered: a run of its gas days, or their first refusal.
-abbrev pub AnswersOffice : List Row → Told → Type 0
-AnswersOffice rows a = AnswersDays rows (days_of rows) a
+-- What the rows of an office's text are answered, a strict one or any: a run of its gas days, or their first refusal.
+abbrev pub AnswersOffice : Bool → List Row → Told → Type 0
+AnswersOffice strict rows a = AnswersDays strict rows (days_of rows) a
 
 -- What the bytes of an office's text are answered.
-abbrev pub AnswersOfficeBytes : List ℕ → Told → Type 0
-AnswersOfficeBytes text a = BytesAnswered form.Office AnswersOffice text a
+abbrev pub AnswersOfficeBytes : Bool → List ℕ → Told → Type 0
+AnswersOfficeBytes strict text a = BytesAnswered form.Office (AnswersOffice strict) text a

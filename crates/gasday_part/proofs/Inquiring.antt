@@ -1,5 +1,5 @@
 -- What is written of an inquiry, and what tells that there is no book.
-use Rattle.std.proofs.Common.{◌≡◌, inl, inr, ℕ, List, Option, Result, Ok, Err, IfOk, refl, sym, subst, ap, arith}
+use Rattle.std.proofs.Common.{◌≡◌, inl, inr, ℕ, false, List, Option, Result, Ok, Err, IfOk, refl, sym, subst, ap, arith}
 use Rattle.std.specs.Prelude.{◌≢◌, IsErr, string_bytes}
 use Rattle.gd_text_part.specs.Texts.{Tells}
 use Rattle.gd_text_part.specs.declared.fault.RowFault.{RowFault}
@@ -35,7 +35,7 @@ no_book_not_0 (none.NoCalendar f) a told e = let is = ap (λ (t : Told). t.statu
 pub tells_no_book : {E : Type 0} (rows : List Row) (why : NoBook) (r : Result Answer E) → ExplainsNoBook rows why → IfOk r (λ a. TellsNoBook why (answer_seen a))
     → IfOk r (λ a. AnswersRows command.Day rows (answer_seen a) × ((answer_seen a).status ≢ 0))
 tells_no_book rows why (Err e) explains told = tt
-tells_no_book rows why (Ok a) explains told = (tells_none rows why (answer_seen a) explains told, no_book_not_0 why (answer_seen a) told)
+tells_no_book rows why (Ok a) explains told = (tells_none false rows why (answer_seen a) explains told, no_book_not_0 why (answer_seen a) told)
 
 -- what it answers to a text that has no rows
 pub tells_no_rows : {X E : Type 0} (view : X → List Row) (text : List ℕ) (f : TextFault) (r : Result Answer E) → Tells view form.Day text (Err f) → IfOk r (λ a. (f ≢ fault.OutOfMemory) × (answer_seen a ≡ fault_answer f))

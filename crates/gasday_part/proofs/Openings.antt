@@ -1,5 +1,5 @@
 -- Books that rows open, and what is told of them.
-use Rattle.std.proofs.Common.{List, inl, inr, subst}
+use Rattle.std.proofs.Common.{Bool, List, inl, inr, subst}
 use Rattle.gd_book.specs.Kept.{Kept}
 use Rattle.gd_day.specs.Calls.{calls_of}
 use Rattle.gd_day.specs.Opening.{opened_of}
@@ -10,13 +10,13 @@ use Rattle.gasday_part.specs.declared.opened.NoBook.{NoBook}
 use Rattle.gasday_part.specs.declared.opened.NoBook.TheVariants as none
 
 -- what the calls give on the book that is opened tells the day
-pub tells_opened : (rows : List Row) (book : Kept) (a : Told) → OpensBook rows book → TellsCourse book.day (calls_of rows) a → TellsDay rows (opened_of rows) a
-tells_opened rows book a opens told =
+pub tells_opened : (strict : Bool) (rows : List Row) (book : Kept) (a : Told) → OpensBook rows book → TellsCourse strict book.day (calls_of rows) a → TellsDay strict rows (opened_of rows) a
+tells_opened strict rows book a opens told =
     let is = opens.is_opened in
-    rw opens.rows_say (inl (is.moments, is.calendar, subst (λ (k : Kept). TellsCourse k.day (calls_of rows) a) is.book_is told))
+    rw opens.rows_say (inl (is.moments, is.calendar, subst (λ (k : Kept). TellsCourse strict k.day (calls_of rows) a) is.book_is told))
 
 -- so does what tells that none is
-pub tells_none : (rows : List Row) (why : NoBook) (a : Told) → ExplainsNoBook rows why → TellsNoBook why a → TellsDay rows (opened_of rows) a
-tells_none rows (none.Fault f) a (inl memory) t = absurd (t.0 memory)
-tells_none rows (none.Fault f) a (inr refusal) t = rw refusal t.1
-tells_none rows (none.NoCalendar f) a day t = rw day.1 (inr (f, t.0, day.2, t.1))
+pub tells_none : (strict : Bool) (rows : List Row) (why : NoBook) (a : Told) → ExplainsNoBook rows why → TellsNoBook why a → TellsDay strict rows (opened_of rows) a
+tells_none strict rows (none.Fault f) a (inl memory) t = absurd (t.0 memory)
+tells_none strict rows (none.Fault f) a (inr refusal) t = rw refusal t.1
+tells_none strict rows (none.NoCalendar f) a day t = rw day.1 (inr (f, t.0, day.2, t.1))

@@ -1,5 +1,5 @@
 -- What a command answers to a text.
-use Rattle.std.specs.Prelude.{◌≡◌, ◌≢◌, ◌⊎◌, ℕ, ◌-◌, ℤ, pos, map, List, [], ◌∷◌, ◌++◌, length, slice_get, Option, Result, Ok, Err, ⊤}
+use Rattle.std.specs.Prelude.{◌≡◌, ◌≢◌, ◌⊎◌, ℕ, ◌-◌, ℤ, pos, Bool, true, false, if◌then◌else◌, map, List, [], ◌∷◌, ◌++◌, length, slice_get, Option, Result, Ok, Err, ⊤}
 use Rattle.std.specs.Option.{IsSome}
 use Rattle.jiff.specs.Words.{IsYmd, read_whole}
 use Rattle.jiff.specs.Placed.{IsPosixZone}
@@ -37,6 +37,8 @@ use Rattle.gd_machine.specs.History.{History}
 use Rattle.gd_day.specs.Calls.{Call, calls_of}
 use Rattle.gd_day.specs.Opening.{Opened, opened_of}
 use Rattle.gd_course.specs.Course.{Runs, RunsInPart}
+use Rattle.gd_rounds.specs.Summaries.{summary_of, is_in_order}
+use Rattle.gd_rounds.specs.declared.summary.Summary.{Summary}
 use Rattle.gd_text.specs.Building.{row_fault}
 use Rattle.gd_text.specs.Days.{day_of}
 use Rattle.gd_text.specs.Values.{asked_of, question_of}
@@ -186,12 +188,17 @@ TellsCalendar (Err f) a = a ≡ fault_answer f
 abbrev pub no_memory : Reply
 no_memory = reply.Fault fault.OutOfMemory
 
--- All calls are made on a book of that day, of whose history the headline holds, and what they give is told, with status 0. Or
--- memory runs out, and what the first calls give is told, and that, with status 2.
-abbrev pub TellsCourse : Day → List Call → Told → Type 0
-TellsCourse day calls a =
+-- The exit status of a course that was told to its end: 0, or of a strict one 1 where it didn't come to what is in order.
+abbrev pub course_status : Bool → Summary → ℕ
+course_status false s = 0
+course_status true s = if is_in_order s then 0 else 1
+
+-- All calls are made on a book of that day, of whose history the headline holds, and what they give is told, with the status of a
+-- course that came to that. Or memory runs out, and what the first calls give is told, and that, with status 2.
+abbrev pub TellsCourse : Bool → Day → List Call → Told → Type 0
+TellsCourse strict day calls a =
     ((rows : List Reply) × (after : History) × Runs day [] calls rows after × Holds day after
-    × (a ≡ record { replies = rows; status = 0 }))
+    × (a ≡ record { replies = rows; status = course_status strict (summary_of day.moments after rows) }))
     ⊎ ((rows : List Reply) × RunsInPart day [] calls rows
     × (a ≡ record { replies = rows ++ no_memory ∷ []; status = 2 }))
 
@@ -200,9 +207,9 @@ abbrev pub day_in : Opened → List ℕ → Day
 day_in o moments = record { name = o.book; holdings = o.holdings; moments = moments; carry = o.carry }
 
 -- the course of a text's gas day, or the first refusal
-abbrev pub TellsDay : List Row → Result Opened TextFault → Told → Type 0
-TellsDay rows (Ok o) a = TellsDate (λ moments. TellsCourse (day_in o moments) (calls_of rows)) o.date o.zone a
-TellsDay rows (Err f) a = a ≡ fault_answer f
+abbrev pub TellsDay : Bool → List Row → Result Opened TextFault → Told → Type 0
+TellsDay strict rows (Ok o) a = TellsDate (λ moments. TellsCourse strict (day_in o moments) (calls_of rows)) o.date o.zone a
+TellsDay strict rows (Err f) a = a ≡ fault_answer f
 
 -- how a command's text is read
 abbrev pub form_of : Command → Form
@@ -212,17 +219,17 @@ form_of command.CheckCut = form.CheckCut
 form_of command.Solve = form.Solve
 form_of command.Calendar = form.Calendar
 form_of command.Day = form.Day
-form_of command.Office = form.Office
+form_of command.StrictDay = form.Day
 
--- what a command answers to the rows of its text; what an office answers is said where it is run
+-- what a command answers to the rows of its text
 abbrev pub AnswersRows : Command → List Row → Told → Type 0
 AnswersRows command.CheckAllowed rows a = ChecksAsked (asked_of rows) a
 AnswersRows command.CheckBest rows a = ChecksBest rows (asked_of rows) a
 AnswersRows command.CheckCut rows a = ChecksCut rows (question_of rows) a
 AnswersRows command.Solve rows a = SolvesAsked (question_of rows) a
 AnswersRows command.Calendar rows a = TellsCalendar (day_of rows) a
-AnswersRows command.Day rows a = TellsDay rows (opened_of rows) a
-AnswersRows command.Office rows a = ⊥
+AnswersRows command.Day rows a = TellsDay false rows (opened_of rows) a
+AnswersRows command.StrictDay rows a = TellsDay true rows (opened_of rows) a
 
 -- the rows are answered, or the first fault is told
 abbrev pub AnswersText : (List Row → Told → Type 0) → Result (List Row) RowFault → Told → Type 0

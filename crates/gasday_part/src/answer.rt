@@ -1,6 +1,6 @@
 //! What a command answers to a text.
 
-ghost use Rattle.std.specs.Prelude.{◌≡◌, ◌≢◌, [], ◌∷◌, IfOk};
+ghost use Rattle.std.specs.Prelude.{◌≡◌, ◌≢◌, [], ◌∷◌, ◌++◌, IfOk};
 ghost use Rattle.gd_text_part.specs.declared.fault.TextFault.TheVariants.{OutOfMemory};
 ghost use Rattle.gd_text.specs.Values.{asked_of as asked_by};
 ghost use Rattle.gasday_part.specs.Answers as spec;
@@ -12,6 +12,7 @@ use crate::day::tell_calendar;
 use crate::solve::tell_solved;
 use gasday_words::Command;
 use gd_replies::{Reply, allowed_replies, broken_reply};
+use gd_rounds::Summary;
 use gd_text::{Asked, asked_of};
 use gd_text_part::{Form, Row, TextFault, rows_in};
 use std::alloc::{AllocError, Global};
@@ -24,6 +25,8 @@ pub struct Answer {
     pub status: u8,
     /// Memory ran out behind these rows, which is told in a last one.
     pub short: bool,
+    /// What it came to, where it tells the whole course of a gas day, or of the gas days of an office.
+    pub summary: Option<Summary>,
 }
 
 impl Answer {
@@ -35,7 +38,40 @@ impl Answer {
             replies,
             status,
             short: false,
+            summary: None,
         }
+    }
+
+    /// The rows that were told before memory ran out, which is told behind them.
+    pub fn cut_short(replies: Vec<Reply>) -> Answer
+        ensures { answer_seen result ≡ record { replies = replies.items ++ spec.no_memory ∷ []; status = 2 } }
+    {
+        Answer {
+            replies,
+            status: 2,
+            short: true,
+            summary: None,
+        }
+    }
+
+    /// The rows that tell the whole course of a gas day or of several, and what it came to.
+    pub fn summed(replies: Vec<Reply>, status: u8, summary: Summary) -> Answer
+        ensures { answer_seen result ≡ record { replies = replies.items; status = status } }
+    {
+        Answer {
+            replies,
+            status,
+            short: false,
+            summary: Some(summary),
+        }
+    }
+}
+
+/// What a gas day or several came to, where an answer tells their whole course.
+pub fn summary_in(answer: &Result<Answer, AllocError>) -> Option<Summary> {
+    match answer {
+        Ok(answer) => answer.summary,
+        Err(_) => None,
     }
 }
 
@@ -59,8 +95,7 @@ pub(crate) fn form_of(command: Command) -> Form
         Command::CheckCut => Form::CheckCut,
         Command::Solve => Form::Solve,
         Command::Calendar => Form::Calendar,
-        Command::Day => Form::Day,
-        Command::Office => Form::Office,
+        Command::Day | Command::StrictDay => Form::Day,
     }
 }
 
@@ -117,7 +152,6 @@ fn answer_to_rows(
     command: Command,
     rows: &[Row],
 ) -> Result<Answer, AllocError>
-    requires { command ≢ Command.Office }
     ensures { IfOk result (λ a. spec.AnswersRows command rows.now (answer_seen a)) }
 {
     match command {
@@ -126,22 +160,20 @@ fn answer_to_rows(
         Command::CheckCut => tell_cut(alloc, rows),
         Command::Solve => tell_solved(alloc, rows),
         Command::Calendar => tell_calendar(alloc, rows),
-        Command::Day => tell_day(rt, alloc, rows),
-        Command::Office => unreachable!(),
+        Command::Day => tell_day(rt, alloc, rows, false),
+        Command::StrictDay => tell_day(rt, alloc, rows, true),
     }
 }
 
 /// What a command answers to the bytes of a text. The only error is want of memory.
 ///
-/// This is all that a command does between reading and printing. It asks for a command other than `office`, which waits for
-/// locks.
+/// This is all that a command does between reading and printing.
 pub fn answer_of(
     rt: &(impl Threads + Sync),
     alloc: Global,
     command: Command,
     text: &[u8],
 ) -> Result<Answer, AllocError>
-    requires { command ≢ Command.Office }
     ensures { IfOk result (λ a. spec.AnswersBytes command text.now (answer_seen a)) }
 {
     match rows_in(alloc, form_of(command), text) {

@@ -12,40 +12,58 @@ use crate::opened::{of_no_book, open_book};
 use gd_board::Board;
 use gd_book::Book;
 use gd_course::run;
+use gd_rounds::{Summary, summary_of};
 use gd_text_part::Row;
 use std::alloc::{AllocError, Global};
 use std::thread::Threads;
 
+/// The exit status of a course that came to this.
+pub fn course_status(is_strict: bool, summary: &Summary) -> u8
+    ensures { result ≡ spec.course_status is_strict summary.now }
+{
+    if is_strict && !summary.is_in_order() {
+        1
+    } else {
+        0
+    }
+}
+
 /// What the calls of the rows give on a new book.
-fn tell_calls(rt: &(impl Threads + Sync), alloc: Global, book: &mut Book, rows: &[Row]) -> Answer
+fn tell_calls(
+    rt: &(impl Threads + Sync),
+    alloc: Global,
+    book: &mut Book,
+    rows: &[Row],
+    is_strict: bool,
+) -> Answer
     requires new { book.old.history ≡ [] }
     requires pass { AllPass book.old.day.holdings.pipeline (calls_of rows.now) }
-    ensures { spec.TellsCourse book.old.day (calls_of rows.now) (answer_seen result) }
+    ensures { spec.TellsCourse is_strict book.old.day (calls_of rows.now) (answer_seen result) }
 {
     let board = Board::new(alloc);
     let mut note = board.note();
     let mut replies = Vec::new(alloc);
     match run(rt, alloc, book, &board, &mut note, rows, &mut replies) {
-        Ok(()) => Answer::whole(replies, 0),
-        Err(_) => Answer {
-            replies,
-            status: 2,
-            short: true,
-        },
+        Ok(()) => {
+            let summary = summary_of(book, replies.as_slice());
+            Answer::summed(replies, course_status(is_strict, &summary), summary)
+        }
+        Err(_) => Answer::cut_short(replies),
     }
 }
 
-/// The course of the gas day that the rows tell.
+/// The course of the gas day that the rows tell. A strict one ends with status 1 where it didn't come to what is in order.
 pub(crate) fn tell_day(
     rt: &(impl Threads + Sync),
     alloc: Global,
     rows: &[Row],
+    is_strict: bool,
 ) -> Result<Answer, AllocError>
-    ensures { IfOk result (λ a. spec.TellsDay rows.now (opened_of rows.now) (answer_seen a)) }
+    ensures { IfOk result (λ a. spec.TellsDay is_strict rows.now (opened_of rows.now) (answer_seen a)) }
 {
     match open_book(alloc, rows) {
         Ok(mut book) => {
-            let told = tell_calls(rt, alloc, &mut book, rows);
+            let told = tell_calls(rt, alloc, &mut book, rows, is_strict);
             drop(book);
             Ok(told)
         }

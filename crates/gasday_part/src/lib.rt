@@ -11,7 +11,8 @@ mod opened;
 mod solution;
 mod solve;
 
-pub use answer::{Answer, answer_of, last_of, of_fault, of_one};
+pub use answer::{Answer, answer_of, last_of, of_fault, of_one, summary_in};
+pub use course::course_status;
 pub use day::{DayFault, calendar_of, of_no_calendar};
 pub use engine::write_answer;
 pub use inquiry::{Inquiry, Printed, Written, ask_text, print_inquiry, write_printed, write_rows};

@@ -4,7 +4,7 @@ use gasday_words::{Command, Order, Request, UsageFault, request_of};
 use std::alloc::AllocError;
 use std::test::Fail;
 
-const LINES: [(&[&str], &str); 60] = [
+const LINES: [(&[&str], &str); 64] = [
     (&[], "allowed"),
     (&["gasday"], "allowed"),
     (&["gasday", "check", "allowed"], "allowed"),
@@ -61,6 +61,13 @@ const LINES: [(&[&str], &str); 60] = [
     (&["gasday", "migrate", "--help"], "help of migrate"),
     (&["gasday", "text", "--help"], "help of text"),
     (&["gasday", "office", "--archive", "a.db"], "usage"),
+    (&["gasday", "day", "--strict"], "strict day"),
+    (&["gasday", "day", "--strict", "--book", "a.db"], "usage"),
+    (
+        &["gasday", "day", "--strict", "--archive", "a.db"],
+        "strict archived day",
+    ),
+    (&["gasday", "office", "--strict"], "strict office"),
     (&["gasday", "nonsense"], "usage"),
     (&["gasday", ""], "usage"),
     (&["gasday", "Check", "allowed"], "usage"),
@@ -90,7 +97,7 @@ fn command_name(command: Command) -> &'static str {
         Command::Solve => "solve",
         Command::Calendar => "calendar",
         Command::Day => "day",
-        Command::Office => "office",
+        Command::StrictDay => "strict day",
     }
 }
 
@@ -99,7 +106,16 @@ fn order_name(order: Order<'_>) -> &'static str {
     match order {
         Order::Text(command) => command_name(command),
         Order::CheckAnswer => "answer",
-        Order::ArchivedDay("a.db") => "archived day",
+        Order::Office { is_strict: false } => "office",
+        Order::Office { is_strict: true } => "strict office",
+        Order::ArchivedDay {
+            file: "a.db",
+            is_strict: false,
+        } => "archived day",
+        Order::ArchivedDay {
+            file: "a.db",
+            is_strict: true,
+        } => "strict archived day",
         Order::LiveDay("a.db") => "live day",
         Order::BookText("a.db") => "text",
         Order::Question {

@@ -15,12 +15,12 @@ use Rattle.gasday_words.specs.declared.order.Request.{Request}
 use Rattle.gasday_words.specs.declared.fault.UsageFault.{UsageFault}
 use Rattle.gasday_words.specs.declared.fault.UsageFault.TheVariants.{Help, Version, Usage, OutOfMemory}
 use Rattle.gasday_words.specs.declared.order.Command.{Command}
-use Rattle.gasday_words.specs.declared.order.Command.TheVariants.{CheckAllowed, CheckBest, CheckCut, Solve, Calendar, Day, Office}
+use Rattle.gasday_words.specs.declared.order.Command.TheVariants.{CheckAllowed, CheckBest, CheckCut, Solve, Calendar, Day, StrictDay}
 use Rattle.gasday_words.specs.Ordered as ordered
 use Rattle.gasday_words.specs.Ordered.{Ordered, Requested, over_texts, requested, waiting, without_texts}
 use Rattle.gasday_words.specs.Meaning as spec
 use Rattle.gasday_words.specs.Meaning.{gasday, meaning_of, arguments, check_order, check_texts, cycle_named, cycles, forms, forms_with, day_forms_with, clashes, helps, number_named, versions, request_from, request_in}
-use Rattle.gasday_words.specs.Outcomes.{IsHelp, IsRequest, IsTold, IsUsageAnswer, IsVersion, RefusesChecks, RefusesClashes, RefusesNumbers, TakesAnswers, TakesDays, TakesFiles, TakesForm, TakesForms, TakesHelps, TakesOver, TakesRounds, TakesTexts, TakesVersions, TakesWaits}
+use Rattle.gasday_words.specs.Outcomes.{IsHelp, IsRequest, IsTold, IsUsageAnswer, IsVersion, RefusesChecks, RefusesClashes, RefusesNumbers, TakesAnswers, TakesDays, TakesFiles, TakesForms, TakesHelps, TakesOver, TakesRounds, TakesTexts, TakesVersions, TakesWaits}
 use Rattle.gasday_words.proofs.Entering.{Meets, left_to}
 use Rattle.gasday_words.proofs.Plain.{Word, fault_is, faults, known, level, level_is, named, plain, rows, rows_are, text_of}
 use Rattle.gasday_words.proofs.Numbers.{decimal_is_plain, decimal_names}
@@ -187,11 +187,11 @@ module _ (words : List Text) (r : Result Request UsageFault) (by : IsClaps words
 abbrev over : Ordered → List Word → Requested
 over o vs = over_texts o (map text_of vs)
 
--- words of each command that answers a text are answered by it, over standard input
+-- words of each form that answers a text are answered by its order, over standard input
 pub takes_forms : (words : List Text) (r : Result Request UsageFault) → IsClaps words r → TakesForms words r
 unfolding clap_on_literals
 takes_forms words r by =
-    let P = TakesForm words [] r in
+    let P = TakesOver words [] r in
     let is = answered_by words r by in (
       alone words r by,
       All-cons P _ (drop 1 forms) (λ h. is (codes "check") spec.check check (known (codes "allowed") ∷ []) refl h (over (ordered.Text CheckAllowed) ([])) refl)
@@ -200,15 +200,17 @@ takes_forms words r by =
           (All-cons P _ (drop 4 forms) (λ h. is (codes "solve") spec.solve solve ([]) refl h (over (ordered.Text Solve) ([])) refl)
           (All-cons P _ (drop 5 forms) (λ h. is (codes "calendar") spec.calendar calendar ([]) refl h (over (ordered.Text Calendar) ([])) refl)
           (All-cons P _ (drop 6 forms) (λ h. is (codes "day") spec.day day ([]) refl h (over (ordered.Text Day) ([])) refl)
-          (All-cons P _ (drop 7 forms) (λ h. is (codes "office") spec.office office ([]) refl h (over (ordered.Text Office) ([])) refl)
-          (All-nil P))))))),
+          (All-cons P _ (drop 7 forms) (λ h. is (codes "office") spec.office office ([]) refl h (over (ordered.Office false) ([])) refl)
+          (All-cons P _ (drop 8 forms) (λ h. is (codes "day") spec.day day (known (codes "--strict") ∷ []) refl h (over (ordered.Text StrictDay) ([])) refl)
+          (All-cons P _ (drop 9 forms) (λ h. is (codes "office") spec.office office (known (codes "--strict") ∷ []) refl h (over (ordered.Office true) ([])) refl)
+          (All-nil P))))))))),
     )
 
--- words of each command with the name of one file behind them are answered by it, over that file
-of_one : (words : List Text) (r : Result Request UsageFault) → IsClaps words r → (a : ℕ) (rest : List ℕ) → (a == 45) ≡ false → All (TakesForm words ((a ∷ rest) ∷ []) r) forms
+-- words of each such form with the name of one file behind them are answered by its order, over that file
+of_one : (words : List Text) (r : Result Request UsageFault) → IsClaps words r → (a : ℕ) (rest : List ℕ) → (a == 45) ≡ false → All (TakesOver words ((a ∷ rest) ∷ []) r) forms
 unfolding clap_on_literals
 of_one words r by a rest other =
-    let P = TakesForm words ((a ∷ rest) ∷ []) r in
+    let P = TakesOver words ((a ∷ rest) ∷ []) r in
     let A = named a rest other in
     let is = answered_by words r by in
     All-cons P _ (drop 1 forms) (λ h. is (codes "check") spec.check check (known (codes "allowed") ∷ A ∷ []) refl h (over (ordered.Text CheckAllowed) (A ∷ [])) refl)
@@ -217,14 +219,16 @@ of_one words r by a rest other =
     (All-cons P _ (drop 4 forms) (λ h. is (codes "solve") spec.solve solve (A ∷ []) refl h (over (ordered.Text Solve) (A ∷ [])) refl)
     (All-cons P _ (drop 5 forms) (λ h. is (codes "calendar") spec.calendar calendar (A ∷ []) refl h (over (ordered.Text Calendar) (A ∷ [])) refl)
     (All-cons P _ (drop 6 forms) (λ h. is (codes "day") spec.day day (A ∷ []) refl h (over (ordered.Text Day) (A ∷ [])) refl)
-    (All-cons P _ (drop 7 forms) (λ h. is (codes "office") spec.office office (A ∷ []) refl h (over (ordered.Text Office) (A ∷ [])) refl)
-    (All-nil P)))))))
+    (All-cons P _ (drop 7 forms) (λ h. is (codes "office") spec.office office (A ∷ []) refl h (over (ordered.Office false) (A ∷ [])) refl)
+    (All-cons P _ (drop 8 forms) (λ h. is (codes "day") spec.day day (known (codes "--strict") ∷ A ∷ []) refl h (over (ordered.Text StrictDay) (A ∷ [])) refl)
+    (All-cons P _ (drop 9 forms) (λ h. is (codes "office") spec.office office (known (codes "--strict") ∷ A ∷ []) refl h (over (ordered.Office true) (A ∷ [])) refl)
+    (All-nil P)))))))))
 
 of_two : (words : List Text) (r : Result Request UsageFault) → IsClaps words r → (a b : ℕ) (rest others : List ℕ) → (a == 45) ≡ false → (b == 45) ≡ false
-    → All (TakesForm words ((a ∷ rest) ∷ (b ∷ others) ∷ []) r) forms
+    → All (TakesOver words ((a ∷ rest) ∷ (b ∷ others) ∷ []) r) forms
 unfolding clap_on_literals
 of_two words r by a b rest others other another =
-    let P = TakesForm words ((a ∷ rest) ∷ (b ∷ others) ∷ []) r in
+    let P = TakesOver words ((a ∷ rest) ∷ (b ∷ others) ∷ []) r in
     let A = named a rest other in
     let B = named b others another in
     let is = answered_by words r by in
@@ -234,10 +238,12 @@ of_two words r by a b rest others other another =
     (All-cons P _ (drop 4 forms) (λ h. is (codes "solve") spec.solve solve (A ∷ B ∷ []) refl h (over (ordered.Text Solve) (A ∷ B ∷ [])) refl)
     (All-cons P _ (drop 5 forms) (λ h. is (codes "calendar") spec.calendar calendar (A ∷ B ∷ []) refl h (over (ordered.Text Calendar) (A ∷ B ∷ [])) refl)
     (All-cons P _ (drop 6 forms) (λ h. is (codes "day") spec.day day (A ∷ B ∷ []) refl h (over (ordered.Text Day) (A ∷ B ∷ [])) refl)
-    (All-cons P _ (drop 7 forms) (λ h. is (codes "office") spec.office office (A ∷ B ∷ []) refl h (over (ordered.Text Office) (A ∷ B ∷ [])) refl)
-    (All-nil P)))))))
+    (All-cons P _ (drop 7 forms) (λ h. is (codes "office") spec.office office (A ∷ B ∷ []) refl h (over (ordered.Office false) (A ∷ B ∷ [])) refl)
+    (All-cons P _ (drop 8 forms) (λ h. is (codes "day") spec.day day (known (codes "--strict") ∷ A ∷ B ∷ []) refl h (over (ordered.Text StrictDay) (A ∷ B ∷ [])) refl)
+    (All-cons P _ (drop 9 forms) (λ h. is (codes "office") spec.office office (known (codes "--strict") ∷ A ∷ B ∷ []) refl h (over (ordered.Office true) (A ∷ B ∷ [])) refl)
+    (All-nil P)))))))))
 
--- words of each command with the names of one or two files behind them are answered by it, over these files
+-- words of each such form with the names of one or two files behind them are answered by its order, over these files
 pub takes_texts : (words : List Text) (r : Result Request UsageFault) → IsClaps words r → TakesTexts words r
 takes_texts words r by a b rest others other another =
     (of_one words r by a rest other, of_two words r by a b rest others other another)
@@ -276,7 +282,7 @@ takes_files words r by a rest other =
     let P : List Text × Ordered → Type 0 = λ form. arguments words ≡ form.0 → IsRequest (without_texts form.1) r in
     let F = named a rest other in
     let is = answered_by words r by in
-    All-cons P _ (drop 1 (forms_with file)) (λ h. is (codes "day") spec.day day (known (codes "--archive") ∷ F ∷ []) refl h (without_texts (ordered.ArchivedDay file)) refl)
+    All-cons P _ (drop 1 (forms_with file)) (λ h. is (codes "day") spec.day day (known (codes "--archive") ∷ F ∷ []) refl h (without_texts (ordered.ArchivedDay file false)) refl)
     (All-cons P _ (drop 2 (forms_with file)) (λ h. is (codes "day") spec.day day (known (codes "--book") ∷ F ∷ []) refl h (without_texts (ordered.LiveDay file)) refl)
     (All-cons P _ (drop 3 (forms_with file)) (λ h. is (codes "audit") spec.audit audit (F ∷ []) refl h (without_texts (ordered.Audit file)) refl)
     (All-cons P _ (drop 4 (forms_with file)) (λ h. is (codes "text") spec.book_text book_text (F ∷ []) refl h (without_texts (ordered.BookText file)) refl)
@@ -288,7 +294,8 @@ takes_files words r by a rest other =
     (All-cons P _ (drop 10 (forms_with file)) (λ h. is (codes "carry") spec.carry carry (F ∷ []) refl h (without_texts (ordered.Carry file)) refl)
     (All-cons P _ (drop 11 (forms_with file)) (λ h. is (codes "migrate") spec.migrate migrate (F ∷ []) refl h (without_texts (ordered.Migrate file)) refl)
     (All-cons P _ (drop 12 (forms_with file)) (λ h. is (codes "audit") spec.audit audit (known (codes "--all") ∷ F ∷ []) refl h (without_texts (ordered.AuditEach file)) refl)
-    (All-nil P))))))))))))
+    (All-cons P _ (drop 13 (forms_with file)) (λ h. is (codes "day") spec.day day (known (codes "--strict") ∷ known (codes "--archive") ∷ F ∷ []) refl h (without_texts (ordered.ArchivedDay file true)) refl)
+    (All-nil P)))))))))))))
 
 -- words of each form of a gas day that names a file, with the names of one or two files behind them, are answered by its order
 -- over these files
@@ -303,12 +310,14 @@ takes_days words r by c file filed a b rest others other another =
     let A = named a rest other in
     let B = named b others another in
     let is = answered_by words r by in (
-      All-cons (P one) _ (drop 1 days) (λ h. is (codes "day") spec.day day (known (codes "--archive") ∷ F ∷ A ∷ []) refl h (over (ordered.ArchivedDay (c ∷ file)) (A ∷ [])) refl)
+      All-cons (P one) _ (drop 1 days) (λ h. is (codes "day") spec.day day (known (codes "--archive") ∷ F ∷ A ∷ []) refl h (over (ordered.ArchivedDay (c ∷ file) false) (A ∷ [])) refl)
           (All-cons (P one) _ (drop 2 days) (λ h. is (codes "day") spec.day day (known (codes "--book") ∷ F ∷ A ∷ []) refl h (over (ordered.LiveDay (c ∷ file)) (A ∷ [])) refl)
-          (All-nil (P one))),
-      All-cons (P two) _ (drop 1 days) (λ h. is (codes "day") spec.day day (known (codes "--archive") ∷ F ∷ A ∷ B ∷ []) refl h (over (ordered.ArchivedDay (c ∷ file)) (A ∷ B ∷ [])) refl)
+          (All-cons (P one) _ (drop 3 days) (λ h. is (codes "day") spec.day day (known (codes "--strict") ∷ known (codes "--archive") ∷ F ∷ A ∷ []) refl h (over (ordered.ArchivedDay (c ∷ file) true) (A ∷ [])) refl)
+          (All-nil (P one)))),
+      All-cons (P two) _ (drop 1 days) (λ h. is (codes "day") spec.day day (known (codes "--archive") ∷ F ∷ A ∷ B ∷ []) refl h (over (ordered.ArchivedDay (c ∷ file) false) (A ∷ B ∷ [])) refl)
           (All-cons (P two) _ (drop 2 days) (λ h. is (codes "day") spec.day day (known (codes "--book") ∷ F ∷ A ∷ B ∷ []) refl h (over (ordered.LiveDay (c ∷ file)) (A ∷ B ∷ [])) refl)
-          (All-nil (P two))),
+          (All-cons (P two) _ (drop 3 days) (λ h. is (codes "day") spec.day day (known (codes "--strict") ∷ known (codes "--archive") ∷ F ∷ A ∷ B ∷ []) refl h (over (ordered.ArchivedDay (c ∷ file) true) (A ∷ B ∷ [])) refl)
+          (All-nil (P two)))),
     )
 
 -- the request that an order alone makes, where there is one
@@ -373,7 +382,7 @@ takes_waits words r by a c rest word other another =
           let N = plain (decimal n) (decimal_is_plain n low high) in
           let is = answered_by words r by in
           let so = λ (o : Ordered). ap (waiting_so o) (decimal_names n low high) in
-          All-cons P _ (drop 1 all) (λ h. is (codes "day") spec.day day (known (codes "--archive") ∷ F ∷ W ∷ N ∷ []) refl h (waiting (ordered.ArchivedDay file) n) (so (ordered.ArchivedDay file)))
+          All-cons P _ (drop 1 all) (λ h. is (codes "day") spec.day day (known (codes "--archive") ∷ F ∷ W ∷ N ∷ []) refl h (waiting (ordered.ArchivedDay file false) n) (so (ordered.ArchivedDay file false)))
           (All-cons P _ (drop 2 all) (λ h. is (codes "day") spec.day day (known (codes "--book") ∷ F ∷ W ∷ N ∷ []) refl h (waiting (ordered.LiveDay file) n) (so (ordered.LiveDay file)))
           (All-cons P _ (drop 3 all) (λ h. is (codes "audit") spec.audit audit (F ∷ W ∷ N ∷ []) refl h (waiting (ordered.Audit file) n) (so (ordered.Audit file)))
           (All-cons P _ (drop 4 all) (λ h. is (codes "text") spec.book_text book_text (F ∷ W ∷ N ∷ []) refl h (waiting (ordered.BookText file) n) (so (ordered.BookText file)))
@@ -385,10 +394,11 @@ takes_waits words r by a c rest word other another =
           (All-cons P _ (drop 10 all) (λ h. is (codes "carry") spec.carry carry (F ∷ W ∷ N ∷ []) refl h (waiting (ordered.Carry file) n) (so (ordered.Carry file)))
           (All-cons P _ (drop 11 all) (λ h. is (codes "migrate") spec.migrate migrate (F ∷ W ∷ N ∷ []) refl h (waiting (ordered.Migrate file) n) (so (ordered.Migrate file)))
           (All-cons P _ (drop 12 all) (λ h. is (codes "audit") spec.audit audit (known (codes "--all") ∷ F ∷ W ∷ N ∷ []) refl h (waiting (ordered.AuditEach file) n) (so (ordered.AuditEach file)))
-          (All-nil P))))))))))))),
+          (All-cons P _ (drop 13 all) (λ h. is (codes "day") spec.day day (known (codes "--strict") ∷ known (codes "--archive") ∷ F ∷ W ∷ N ∷ []) refl h (waiting (ordered.ArchivedDay file true) n) (so (ordered.ArchivedDay file true)))
+          (All-nil P)))))))))))))),
       λ none.
           let so = λ (o : Ordered). ap (waiting_so o) none in
-          All-cons Q _ (drop 1 all) (λ h. no (codes "day") spec.day day (known (codes "--archive") ∷ F ∷ W ∷ V ∷ []) refl h refl (so (ordered.ArchivedDay file)))
+          All-cons Q _ (drop 1 all) (λ h. no (codes "day") spec.day day (known (codes "--archive") ∷ F ∷ W ∷ V ∷ []) refl h refl (so (ordered.ArchivedDay file false)))
           (All-cons Q _ (drop 2 all) (λ h. no (codes "day") spec.day day (known (codes "--book") ∷ F ∷ W ∷ V ∷ []) refl h refl (so (ordered.LiveDay file)))
           (All-cons Q _ (drop 3 all) (λ h. no (codes "audit") spec.audit audit (F ∷ W ∷ V ∷ []) refl h refl (so (ordered.Audit file)))
           (All-cons Q _ (drop 4 all) (λ h. no (codes "text") spec.book_text book_text (F ∷ W ∷ V ∷ []) refl h refl (so (ordered.BookText file)))
@@ -400,7 +410,8 @@ takes_waits words r by a c rest word other another =
           (All-cons Q _ (drop 10 all) (λ h. no (codes "carry") spec.carry carry (F ∷ W ∷ V ∷ []) refl h refl (so (ordered.Carry file)))
           (All-cons Q _ (drop 11 all) (λ h. no (codes "migrate") spec.migrate migrate (F ∷ W ∷ V ∷ []) refl h refl (so (ordered.Migrate file)))
           (All-cons Q _ (drop 12 all) (λ h. no (codes "audit") spec.audit audit (known (codes "--all") ∷ F ∷ W ∷ V ∷ []) refl h refl (so (ordered.AuditEach file)))
-          (All-nil Q)))))))))))),
+          (All-cons Q _ (drop 13 all) (λ h. no (codes "day") spec.day day (known (codes "--strict") ∷ known (codes "--archive") ∷ F ∷ W ∷ V ∷ []) refl h refl (so (ordered.ArchivedDay file true)))
+          (All-nil Q))))))))))))),
     )
 
 -- words of each form that names two files for one gas day are answered by a usage fault
@@ -414,7 +425,8 @@ refuses_clashes words r by a b rest others other another =
     let is = refused words r by in
     All-cons P _ (drop 1 both) (λ h. is (codes "day") spec.day day (known (codes "--archive") ∷ A ∷ known (codes "--book") ∷ B ∷ []) refl h refl refl)
     (All-cons P _ (drop 2 both) (λ h. is (codes "day") spec.day day (known (codes "--book") ∷ A ∷ known (codes "--archive") ∷ B ∷ []) refl h refl refl)
-    (All-nil P))
+    (All-cons P _ (drop 3 both) (λ h. is (codes "day") spec.day day (known (codes "--strict") ∷ known (codes "--book") ∷ A ∷ []) refl h refl refl)
+    (All-nil P)))
 
 -- words of each form that asks for help are answered by help
 pub takes_helps : (words : List Text) (r : Result Request UsageFault) → IsClaps words r → TakesHelps words r

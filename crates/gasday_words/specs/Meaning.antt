@@ -1,9 +1,9 @@
 -- The command line of the program, and what its words mean.
-use Rattle.std.specs.Prelude.{ℕ, ◌==◌, true, List, [], ◌∷◌, length, Option, Some, None, option_map, option_and_then, unwrap_or, drop, codes, if◌then◌else◌}
+use Rattle.std.specs.Prelude.{ℕ, ◌==◌, Bool, true, false, List, [], ◌∷◌, length, Option, Some, None, option_map, option_and_then, unwrap_or, drop, codes, if◌then◌else◌}
 use Rattle.std.specs.Str.{bytes_eq}
 use Rattle.std.specs.Str.Parse.{digits_value, without_leading_plus}
 use Rattle.gasday_words.specs.declared.order.Command.{Command}
-use Rattle.gasday_words.specs.declared.order.Command.TheVariants.{CheckAllowed, CheckBest, CheckCut, Solve, Calendar, Day, Office}
+use Rattle.gasday_words.specs.declared.order.Command.TheVariants.{CheckAllowed, CheckBest, CheckCut, Solve, Calendar, Day, StrictDay}
 use Rattle.gasday_words.specs.Ordered as ordered
 use Rattle.gasday_words.specs.Ordered.{Ordered, Requested, without_texts}
 use Rattle.clap.specs.Lexer.{usize_max}
@@ -37,21 +37,21 @@ texts = record (new_rule (codes "text")) {
   range = Some (record { start_inclusive = 0; end_inclusive = usize_max });
 }
 
--- `--archive FILE`, which may be left out
-abbrev pub archive : Rule
-archive = record (new_rule (codes "archive")) { value_names = 1; long = Some (codes "archive") }
+-- `--NAME VALUE`, which may be left out
+abbrev pub option : Text → Rule
+option name = record (new_rule name) { value_names = 1; long = Some name }
 
--- `--book FILE`, which may be left out
-abbrev pub book : Rule
-book = record (new_rule (codes "book")) { value_names = 1; long = Some (codes "book") }
+-- `--NAME`, which may be left out
+abbrev pub flag : Text → Rule
+flag name = record (new_rule name) { action = Some SetTrue; long = Some name }
 
--- `--wait SECONDS`, which may be left out
+-- `--wait SECONDS`
 abbrev pub wait : Rule
-wait = record (new_rule (codes "wait")) { value_names = 1; long = Some (codes "wait") }
+wait = option (codes "wait")
 
--- `--all`, which may be left out
-abbrev pub all : Rule
-all = record (new_rule (codes "all")) { action = Some SetTrue; long = Some (codes "all") }
+-- `--strict`
+abbrev pub strict : Rule
+strict = flag (codes "strict")
 
 -- `check WHAT [TEXT]..`
 abbrev pub check : App
@@ -65,17 +65,21 @@ solve = with_rule (new_app (codes "solve")) texts
 abbrev pub calendar : App
 calendar = with_rule (new_app (codes "calendar")) texts
 
--- `day [--archive FILE] [--book FILE] [--wait SECONDS] [TEXT]..`
-abbrev pub day : App
-day = with_rule (with_rule (with_rule (with_rule (new_app (codes "day")) archive) book) wait) texts
+-- `day [--archive FILE] [--book FILE] [--strict]`
+abbrev pub kept_day : App
+kept_day = with_rule (with_rule (with_rule (new_app (codes "day")) (option (codes "archive"))) (option (codes "book"))) strict
 
--- `office [TEXT]..`
+-- `day [--archive FILE] [--book FILE] [--strict] [--wait SECONDS] [TEXT]..`
+abbrev pub day : App
+day = with_rule (with_rule kept_day wait) texts
+
+-- `office [--strict] [TEXT]..`
 abbrev pub office : App
-office = with_rule (new_app (codes "office")) texts
+office = with_rule (with_rule (new_app (codes "office")) strict) texts
 
 -- `audit [--all] [--wait SECONDS] FILE`
 abbrev pub audit : App
-audit = with_rule (with_rule (with_rule (new_app (codes "audit")) all) wait) file
+audit = with_rule (with_rule (with_rule (new_app (codes "audit")) (flag (codes "all"))) wait) file
 
 -- `text [--wait SECONDS] FILE`
 abbrev pub book_text : App
@@ -136,17 +140,23 @@ abbrev pub check_texts : Option Command → Option Text → List Text → List T
 check_texts None (Some question) texts = question ∷ texts
 check_texts _ _ texts = texts
 
--- a gas day, with an archive or on a book's file where one is named; both together name no order
-abbrev pub day_kept_in : Option Text → Option Text → Option Ordered
-day_kept_in None None = Some (ordered.Text Day)
-day_kept_in (Some name) None = Some (ordered.ArchivedDay name)
-day_kept_in None (Some name) = Some (ordered.LiveDay name)
-day_kept_in (Some name) (Some other) = None
+-- whether a flag is given, of which clap tells a word
+abbrev pub is_given : Option Text → Bool
+is_given None = false
+is_given (Some word) = bytes_eq word (codes "true")
 
--- the audit of a file, and of each posting where `--all` is given
-abbrev pub audit_order : Option Text → Text → Ordered
-audit_order None file = ordered.Audit file
-audit_order (Some word) file = if bytes_eq word (codes "true") then ordered.AuditEach file else ordered.Audit file
+-- A gas day, with an archive or on a book's file where one is named. Both together name no order, and no gas day on a book's file is
+-- strict.
+abbrev pub day_kept_in : Bool → Option Text → Option Text → Option Ordered
+day_kept_in false None None = Some (ordered.Text Day)
+day_kept_in true None None = Some (ordered.Text StrictDay)
+day_kept_in strict (Some name) None = Some (ordered.ArchivedDay name strict)
+day_kept_in false None (Some name) = Some (ordered.LiveDay name)
+day_kept_in _ _ _ = None
+
+-- the audit of a file, or of each posting
+abbrev pub audit_order : Bool → Text → Ordered
+audit_order each file = if each then ordered.AuditEach file else ordered.Audit file
 
 -- the cycle that a word names
 abbrev pub cycle_named : Text → Option ℕ
@@ -187,9 +197,9 @@ order_from name given =
     if bytes_eq name (codes "check") then check_order (check_named (first_of (codes "what") given)) (first_of (codes "what") given) (texts_in given)
     else if bytes_eq name (codes "solve") then Some (ordered.Text Solve)
     else if bytes_eq name (codes "calendar") then Some (ordered.Text Calendar)
-    else if bytes_eq name (codes "day") then day_kept_in (first_of (codes "archive") given) (first_of (codes "book") given)
-    else if bytes_eq name (codes "office") then Some (ordered.Text Office)
-    else if bytes_eq name (codes "audit") then option_map (audit_order (first_of (codes "all") given)) (first_of (codes "file") given)
+    else if bytes_eq name (codes "day") then day_kept_in (is_given (first_of (codes "strict") given)) (first_of (codes "archive") given) (first_of (codes "book") given)
+    else if bytes_eq name (codes "office") then Some (ordered.Office (is_given (first_of (codes "strict") given)))
+    else if bytes_eq name (codes "audit") then option_map (audit_order (is_given (first_of (codes "all") given))) (first_of (codes "file") given)
     else if bytes_eq name (codes "text") then option_map ordered.BookText (first_of (codes "file") given)
     else if bytes_eq name (codes "question") then question_in given
     else if bytes_eq name (codes "carry") then option_map ordered.Carry (first_of (codes "file") given)
@@ -226,22 +236,24 @@ meaning_of words = request_in (subcommand_of gasday words)
 abbrev pub arguments : List Text → List Text
 arguments words = drop 1 words
 
--- the commands that answer a text: the words behind the program's name, and the command that they are
-abbrev pub forms : List (List Text × Command)
+-- the forms that answer a text: the words behind the program's name, and the order that they are
+abbrev pub forms : List (List Text × Ordered)
 forms =
-    (codes "check" ∷ codes "allowed" ∷ [], CheckAllowed)
-    ∷ (codes "check" ∷ codes "best" ∷ [], CheckBest)
-    ∷ (codes "check" ∷ codes "cut" ∷ [], CheckCut)
-    ∷ (codes "solve" ∷ [], Solve)
-    ∷ (codes "calendar" ∷ [], Calendar)
-    ∷ (codes "day" ∷ [], Day)
-    ∷ (codes "office" ∷ [], Office)
+    (codes "check" ∷ codes "allowed" ∷ [], ordered.Text CheckAllowed)
+    ∷ (codes "check" ∷ codes "best" ∷ [], ordered.Text CheckBest)
+    ∷ (codes "check" ∷ codes "cut" ∷ [], ordered.Text CheckCut)
+    ∷ (codes "solve" ∷ [], ordered.Text Solve)
+    ∷ (codes "calendar" ∷ [], ordered.Text Calendar)
+    ∷ (codes "day" ∷ [], ordered.Text Day)
+    ∷ (codes "office" ∷ [], ordered.Office false)
+    ∷ (codes "day" ∷ codes "--strict" ∷ [], ordered.Text StrictDay)
+    ∷ (codes "office" ∷ codes "--strict" ∷ [], ordered.Office true)
     ∷ []
 
 -- the forms of the program that name this archive or this book's file: the words behind its name, and the order that they are
 abbrev pub forms_with : Text → List (List Text × Ordered)
 forms_with file =
-    (codes "day" ∷ codes "--archive" ∷ file ∷ [], ordered.ArchivedDay file)
+    (codes "day" ∷ codes "--archive" ∷ file ∷ [], ordered.ArchivedDay file false)
     ∷ (codes "day" ∷ codes "--book" ∷ file ∷ [], ordered.LiveDay file)
     ∷ (codes "audit" ∷ file ∷ [], ordered.Audit file)
     ∷ (codes "text" ∷ file ∷ [], ordered.BookText file)
@@ -253,6 +265,7 @@ forms_with file =
     ∷ (codes "carry" ∷ file ∷ [], ordered.Carry file)
     ∷ (codes "migrate" ∷ file ∷ [], ordered.Migrate file)
     ∷ (codes "audit" ∷ codes "--all" ∷ file ∷ [], ordered.AuditEach file)
+    ∷ (codes "day" ∷ codes "--strict" ∷ codes "--archive" ∷ file ∷ [], ordered.ArchivedDay file true)
     ∷ []
 
 -- the words that name cycles, and the cycles
@@ -263,15 +276,18 @@ cycles = (codes "1", 1) ∷ (codes "2", 2) ∷ (codes "3", 3) ∷ (codes "4", 4)
 -- that they are
 abbrev pub day_forms_with : Text → List (List Text × Ordered)
 day_forms_with file =
-    (codes "day" ∷ codes "--archive" ∷ file ∷ [], ordered.ArchivedDay file)
+    (codes "day" ∷ codes "--archive" ∷ file ∷ [], ordered.ArchivedDay file false)
     ∷ (codes "day" ∷ codes "--book" ∷ file ∷ [], ordered.LiveDay file)
+    ∷ (codes "day" ∷ codes "--strict" ∷ codes "--archive" ∷ file ∷ [], ordered.ArchivedDay file true)
     ∷ []
 
--- the forms that name these two files for one gas day, an archive and a book's file, and so are no order
+-- the forms that name these two files for one gas day, an archive and a book's file, or a book's file for a strict gas day, and so are no
+-- order
 abbrev pub clashes : Text → Text → List (List Text)
 clashes file other =
     (codes "day" ∷ codes "--archive" ∷ file ∷ codes "--book" ∷ other ∷ [])
     ∷ (codes "day" ∷ codes "--book" ∷ file ∷ codes "--archive" ∷ other ∷ [])
+    ∷ (codes "day" ∷ codes "--strict" ∷ codes "--book" ∷ file ∷ [])
     ∷ []
 
 -- the forms that ask for help

@@ -1,5 +1,5 @@
 -- What a clause sees of a request.
-use Rattle.std.specs.Prelude.{ℕ, List, [], Option, map}
+use Rattle.std.specs.Prelude.{ℕ, Bool, List, [], Option, map}
 use Rattle.gasday_words.specs.declared.order.Command.{Command}
 use Rattle.gasday_words.specs.declared.order.Order.{Order}
 use Rattle.gasday_words.specs.declared.order.Order.TheVariants as order
@@ -10,7 +10,9 @@ pub data Ordered : Type 0 where
   Text : Command → Ordered
   -- of a question's text with an answer behind it
   CheckAnswer : Ordered
-  ArchivedDay : List ℕ → Ordered
+  -- a strict one, or any
+  Office : Bool → Ordered
+  ArchivedDay : List ℕ → Bool → Ordered
   LiveDay : List ℕ → Ordered
   BookText : List ℕ → Ordered
   Audit : List ℕ → Ordered
@@ -24,7 +26,8 @@ pub data Ordered : Type 0 where
 abbrev pub seen : Order → Ordered
 seen (order.Text command) = Text command
 seen order.CheckAnswer = CheckAnswer
-seen (order.ArchivedDay file) = ArchivedDay file.now
+seen (order.Office strict) = Office strict
+seen (order.ArchivedDay file strict) = ArchivedDay file.now strict
 seen (order.LiveDay file) = LiveDay file.now
 seen (order.BookText file) = BookText file.now
 seen (order.Audit file) = Audit file.now

@@ -4,7 +4,6 @@ use Rattle.std.specs.Fmt.{decimal}
 use Rattle.clap.specs.Words.{IsAmong, Kinds, Text, fault_of}
 use Rattle.clap.specs.declared.error.kind.ErrorKind.{ErrorKind}
 use Rattle.clap.specs.declared.error.kind.ErrorKind.TheVariants as kind
-use Rattle.gasday_words.specs.declared.order.Command.{Command}
 use Rattle.gasday_words.specs.declared.order.Command.TheVariants as command
 use Rattle.gasday_words.specs.declared.order.Request.{Request}
 use Rattle.gasday_words.specs.declared.fault.UsageFault.{UsageFault}
@@ -77,16 +76,15 @@ IsVersion r = MatchResult r (λ _. ⊥) IsVersionFault
 abbrev pub IsUsageAnswer : Result Request UsageFault → Type 0
 IsUsageAnswer r = MatchResult r (λ _. ⊥) IsUsage
 
--- words of each command that answers a text, with these words behind them, are taken as that command over these texts
-abbrev pub TakesForm : List Text → List Text → Result Request UsageFault → List Text × Command → Type 0
-TakesForm words texts r form =
-    arguments words ≡ form.0 ++ texts → IsRequest (over_texts (ordered.Text form.1) texts) r
+-- words of a form, with these words behind them, are taken as its order over these texts
+abbrev pub TakesOver : List Text → List Text → Result Request UsageFault → List Text × Ordered → Type 0
+TakesOver words texts r form = arguments words ≡ form.0 ++ texts → IsRequest (over_texts form.1 texts) r
 
--- With no words behind the program's name it is `check allowed`, and words of each command that answers a text are taken as
--- that command, over standard input.
+-- With no words behind the program's name it is `check allowed`, and words of each form that answers a text are taken as its order,
+-- over standard input.
 abbrev pub TakesForms : List Text → Result Request UsageFault → Type 0
 TakesForms words r =
-    (arguments words ≡ [] → IsRequest (without_texts (ordered.Text command.CheckAllowed)) r) × All (TakesForm words [] r) forms
+    (arguments words ≡ [] → IsRequest (without_texts (ordered.Text command.CheckAllowed)) r) × All (TakesOver words [] r) forms
 
 -- `-`, as a byte
 abbrev pub hyphen : ℕ
@@ -98,10 +96,9 @@ OfOneOrTwo says =
     (a b : ℕ) (rest others : List ℕ) → (a == hyphen) ≡ false → (b == hyphen) ≡ false
     → says ((a ∷ rest) ∷ []) × says ((a ∷ rest) ∷ (b ∷ others) ∷ [])
 
--- words of each command that answers a text, with the names of one or two files behind them, are taken as that command over
--- these files
+-- words of each form that answers a text, with the names of one or two files behind them, are taken as its order over these files
 abbrev pub TakesTexts : List Text → Result Request UsageFault → Type 0
-TakesTexts words r = OfOneOrTwo (λ texts. All (TakesForm words texts r) forms)
+TakesTexts words r = OfOneOrTwo (λ texts. All (TakesOver words texts r) forms)
 
 -- words that name the files of a question and of an answer, whatever their names, are taken as the check of the answer over the two,
 -- where the first name is no word for a check
@@ -125,10 +122,6 @@ abbrev pub TakesFiles : List Text → Result Request UsageFault → Type 0
 TakesFiles words r =
     (b : ℕ) (rest : List ℕ) → (b == hyphen) ≡ false
     → All (λ form. arguments words ≡ form.0 → IsRequest (without_texts form.1) r) (forms_with (b ∷ rest))
-
--- words of a form that names a file, with these words behind them, are taken as its order over these texts
-abbrev pub TakesOver : List Text → List Text → Result Request UsageFault → List Text × Ordered → Type 0
-TakesOver words texts r form = arguments words ≡ form.0 ++ texts → IsRequest (over_texts form.1 texts) r
 
 -- words of each form of a gas day that names a file, whatever its name, with the names of one or two files behind them, are
 -- taken as its order over these files

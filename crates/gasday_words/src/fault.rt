@@ -62,6 +62,10 @@ const CYCLES: &str = "  [possible values: 1, 2, 3, 4, 5]\n";
 const CLASH: &str = "error: '--book' can't be used with '--archive'\n\n\
      For more information, try '--help'.\n";
 
+/// What is told of a strict gas day on a book's file.
+const STRICT_BOOK: &str = "error: '--strict' can't be used with '--book'\n\n\
+     For more information, try '--help'.\n";
+
 /// What to tell of words that clap took, and that name no order.
 pub(crate) fn no_order(alloc: Global, why: NoOrder<'_>) -> UsageFault
     ensures { IsUsage result }
@@ -72,6 +76,7 @@ pub(crate) fn no_order(alloc: Global, why: NoOrder<'_>) -> UsageFault
         NoOrder::Round(word) => text_of_no_value(alloc, word, "[ROUND]", ""),
         NoOrder::Wait(word) => text_of_no_value(alloc, word, "--wait <SECONDS>", ""),
         NoOrder::BothFiles => String::from_str(alloc, CLASH),
+        NoOrder::StrictBook => String::from_str(alloc, STRICT_BOOK),
     };
     match text {
         Ok(text) => UsageFault::Usage(text),

@@ -27,12 +27,14 @@ Examples:
   gasday day --book 0308.book < examples/gas-day/two-cycles.csv
 
 Exit status:
-  0                   The answer is good. Calls of a day that are refused don't change that.
+  0                   The answer is good. Calls of a day that are refused don't change that, but with
+                      --strict.
   1                   A schedule, a price or a cut is broken; no schedule is allowed (solve); a gas
                       day has no calendar; an office's receipts don't fit its books; a posting was
                       kept before; an archive is unsound, or isn't of version 1 when it is migrated;
-                      a row was faulty (day --book); a book's file isn't what was told; the book was
-                      never frozen in the round that is asked for (question).
+                      a row was faulty (day --book); a day or an office didn't come to what is in order
+                      (--strict); a book's file isn't what was told; the book was never frozen in the
+                      round that is asked for (question).
   2                   A fault of the command line, the text, reading, writing, the archive, the
                       book's file, the memory or the threads.
 
@@ -363,11 +365,20 @@ The refusals of each call by their number N, the first that applies:
   UnknownElement      No element has that name. Correct it.
   IsPool              A pool has no capacity. Remove the row.
 
+Standard error sums the run up: how many cycles were published, declared impossible, skipped or never
+frozen, and how many calls were refused. It also tells of freezes that came when their cycle was in effect
+already, and of calls that came when the gas day was over.
+
+With --strict, which doesn't go with --book, it prints the same rows, and ends with 1 where a call was
+refused, a cycle was declared impossible, or a freeze or a call came too late in that way.
+
 With --archive FILE, after the run what was published in each cycle is kept in FILE, a SQLite database,
 which is made where it isn't there. For a cycle that has a posting there already it prints
   refused,keep,1,Kept
   Kept                The archive has a posting of this book and cycle, which is left as it is. Name
                       each gas day's book by its date. Status 1.
+Standard error tells whether that posting is the very one that was published now, and where it is another
+one the SHA-256 of both. With --strict the status is 1 only where it isn't the very one.
 
 With --book FILE, and without --archive, it serves rows of calls as they come, each told and flushed at
 once, on the book that FILE keeps, a SQLite database, which is made where it isn't there. Where FILE
@@ -394,8 +405,10 @@ fault,0,Store. Where FILE isn't what was told it prints
   differs,PIECE,CALL
       At this piece, and at this call over the whole file, both counted from 1: the call gives other
       rows than FILE says were told. Call 0 is the opening. Take FILE from a copy. Status 1.
-The status is 0 where the input ended and no row was faulty; 1 where a row was faulty, the opening has
-no calendar or FILE differs; and 2 where the run failed.
+Standard error tells at once of a freeze that comes when its cycle is in effect already, and of the first
+call that comes when the gas day is over: a clock is wrong then. The status is 0 where the input ended and
+no row was faulty; 1 where a row was faulty, the opening has no calendar or FILE differs; and 2 where the
+run failed.
 
 Examples:
   gasday day < examples/gas-day/two-cycles.csv
@@ -430,6 +443,8 @@ Refusals are those of 'gasday day --help'. Where a slot's sessions can't be clos
   Missing             The sessions of a slot can't be closed: so many as DETAIL are open and were
                       not handed in (ITEM is the slot). Nothing of the text causes it; keep the text
                       and tell who maintains the program. Status 1.
+
+Standard error sums all its gas days up, and --strict turns the status to 1, as 'gasday day --help' tells.
 
 Example:
   gasday office < examples/office/two-books.csv";

@@ -141,33 +141,33 @@ fn calendar<'a>(alloc: Global) -> Result<CommandLine<'a>, AllocError>
     .arg(texts(alloc))
 }
 
+/// `--NAME VALUE`, which may be left out.
+fn option<'a>(alloc: Global, name: &'a str, value: &'a str, about: &'a str) -> Arg<'a>
+    ensures rule { rule_of result ≡ spec.option name.entry.now }
+    ensures local { result.global ≡ false }
+{
+    Arg::new(alloc, name)
+        .long(name)
+        .value_name(value)
+        .help(about)
+}
+
+/// `--NAME`, which may be left out. It gives the word `true` or `false`.
+fn flag<'a>(alloc: Global, name: &'a str, about: &'a str) -> Arg<'a>
+    ensures rule { rule_of result ≡ spec.flag name.entry.now }
+    ensures local { result.global ≡ false }
+{
+    Arg::new(alloc, name)
+        .long(name)
+        .action(ArgAction::SetTrue)
+        .help(about)
+}
+
 const ABOUT_DAY: &str = "Makes the calls of a whole gas day, and tells what each gives";
 
 const HELP_OF_ARCHIVE: &str = "keep in FILE what is published";
 
-/// `--archive FILE`, which may be left out.
-fn archive<'a>(alloc: Global) -> Arg<'a>
-    ensures rule { rule_of result ≡ spec.archive }
-    ensures local { result.global ≡ false }
-{
-    Arg::new(alloc, "archive")
-        .long("archive")
-        .value_name("FILE")
-        .help(HELP_OF_ARCHIVE)
-}
-
 const HELP_OF_BOOK: &str = "serve rows as they come, on the book that FILE keeps";
-
-/// `--book FILE`, which may be left out.
-fn book<'a>(alloc: Global) -> Arg<'a>
-    ensures rule { rule_of result ≡ spec.book }
-    ensures local { result.global ≡ false }
-{
-    Arg::new(alloc, "book")
-        .long("book")
-        .value_name("FILE")
-        .help(HELP_OF_BOOK)
-}
 
 const HELP_OF_WAIT: &str = "wait so long for FILE where another process has it";
 
@@ -176,15 +176,23 @@ fn wait<'a>(alloc: Global) -> Arg<'a>
     ensures rule { rule_of result ≡ spec.wait }
     ensures local { result.global ≡ false }
 {
-    Arg::new(alloc, "wait")
-        .long("wait")
-        .value_name("SECONDS")
-        .help(HELP_OF_WAIT)
+    option(alloc, "wait", "SECONDS", HELP_OF_WAIT)
 }
 
-/// `day [--archive FILE] [--book FILE] [--wait SECONDS] [TEXT]..`.
-fn day<'a>(alloc: Global) -> Result<CommandLine<'a>, AllocError>
-    ensures app { IfOk result (λ c. app_of c ≡ spec.day) }
+const HELP_OF_STRICT: &str =
+    "end with 1 where a call was refused or too late, or a cycle declared impossible";
+
+/// `--strict`, which may be left out.
+fn strict<'a>(alloc: Global) -> Arg<'a>
+    ensures rule { rule_of result ≡ spec.strict }
+    ensures local { result.global ≡ false }
+{
+    flag(alloc, "strict", HELP_OF_STRICT)
+}
+
+/// `day [--archive FILE] [--book FILE] [--strict]`.
+fn kept_day<'a>(alloc: Global) -> Result<CommandLine<'a>, AllocError>
+    ensures app { IfOk result (λ c. app_of c ≡ spec.kept_day) }
     ensures local { IfOk result (λ c. (out-Command c).has_globals ≡ false) }
 {
     command(
@@ -194,16 +202,23 @@ fn day<'a>(alloc: Global) -> Result<CommandLine<'a>, AllocError>
         help::SHORT_OF_DAY,
         help::LONG_OF_DAY,
     )
-    .arg(archive(alloc))?
-    .arg(book(alloc))?
-    .arg(wait(alloc))?
-    .arg(texts(alloc))
+    .arg(option(alloc, "archive", "FILE", HELP_OF_ARCHIVE))?
+    .arg(option(alloc, "book", "FILE", HELP_OF_BOOK))?
+    .arg(strict(alloc))
+}
+
+/// `day [--archive FILE] [--book FILE] [--strict] [--wait SECONDS] [TEXT]..`.
+fn day<'a>(alloc: Global) -> Result<CommandLine<'a>, AllocError>
+    ensures app { IfOk result (λ c. app_of c ≡ spec.day) }
+    ensures local { IfOk result (λ c. (out-Command c).has_globals ≡ false) }
+{
+    kept_day(alloc)?.arg(wait(alloc))?.arg(texts(alloc))
 }
 
 const ABOUT_OFFICE: &str =
     "Runs an office of several gas days, with sessions and desks in threads, and reconciles all receipts";
 
-/// `office [TEXT]..`.
+/// `office [--strict] [TEXT]..`.
 fn office<'a>(alloc: Global) -> Result<CommandLine<'a>, AllocError>
     ensures app { IfOk result (λ c. app_of c ≡ spec.office) }
     ensures local { IfOk result (λ c. (out-Command c).has_globals ≡ false) }
@@ -215,6 +230,7 @@ fn office<'a>(alloc: Global) -> Result<CommandLine<'a>, AllocError>
         help::SHORT_OF_OFFICE,
         help::LONG_OF_OFFICE,
     )
+    .arg(strict(alloc))?
     .arg(texts(alloc))
 }
 
@@ -230,17 +246,6 @@ fn file<'a>(alloc: Global, about: &'a str) -> Arg<'a>
 }
 
 const HELP_OF_ALL: &str = "tell of each posting of an archive, whether it is sound";
-
-/// `--all`, which may be left out. It gives the word `true` or `false`.
-fn all<'a>(alloc: Global) -> Arg<'a>
-    ensures rule { rule_of result ≡ spec.all }
-    ensures local { result.global ≡ false }
-{
-    Arg::new(alloc, "all")
-        .long("all")
-        .action(ArgAction::SetTrue)
-        .help(HELP_OF_ALL)
-}
 
 const ABOUT_AUDIT: &str =
     "Checks each posting of an archive against its own question, or makes all calls of a book's file again";
@@ -259,7 +264,7 @@ fn audit<'a>(alloc: Global) -> Result<CommandLine<'a>, AllocError>
         help::SHORT_OF_AUDIT,
         help::LONG_OF_AUDIT,
     )
-    .arg(all(alloc))?
+    .arg(flag(alloc, "all", HELP_OF_ALL))?
     .arg(wait(alloc))?
     .arg(file(alloc, FILE_OF_AUDIT))
 }

@@ -24,19 +24,29 @@ pub enum Command {
     Calendar,
     /// Makes the calls of a gas day on its book, and tells what each gives.
     Day,
-    /// Runs an office of several gas days, with sessions and desks in threads, and holds all receipts against its books.
-    Office,
+    /// The same, and the exit status is 1 where a call was refused, a cycle was declared impossible, or a freeze or a call came too
+    /// late.
+    StrictDay,
 }
 
 /// What the words ask for.
 #[derive(Clone, Copy, Debug, PartialEq, Eq)]
 pub enum Order<'a> {
-    /// A command that needs no archive and no book's file.
+    /// A command that needs no archive, no book's file and no threads of an office.
     Text(Command),
     /// `check QUESTION ANSWER`: tells whether an answer to a question is right, by the check that it asks for itself.
     CheckAnswer,
-    /// `day --archive FILE`: as `day`, and what is published is kept in the archive.
-    ArchivedDay(&'a str),
+    /// `office`: runs an office of several gas days, with sessions and desks in threads, and holds all receipts against its books.
+    /// A strict one ends with 1 where it didn't come to what is in order, as a strict day does.
+    Office {
+        is_strict: bool,
+    },
+    /// `day --archive FILE`: as `day`, and what is published is kept in the archive. A strict one ends with 1 as a strict day does, and
+    /// where the archive has another posting already, but not where it has the same.
+    ArchivedDay {
+        file: &'a str,
+        is_strict: bool,
+    },
     /// `day --book FILE`: serves calls as they come, on the book that the file keeps.
     LiveDay(&'a str),
     /// `text FILE`: prints the text of a gas day that a book's file keeps.
@@ -93,15 +103,25 @@ fn check_of<'a>(word: Option<&str>, texts: usize) -> Option<Order<'a>>
     }
 }
 
-/// The order that checks this archive or this book's file, and tells of each posting where `all` is given.
-fn audit_of<'a>(file: Option<&'a str>, all: Option<&str>) -> Option<Order<'a>>
-    ensures { option_map seen result ≡ option_map (spec.audit_order (option_map (λ w. w.now) all.entry))
-        (option_map (λ f. f.now) file.entry) }
+/// Whether a flag is given, of which clap tells a word.
+fn is_given(word: Option<&str>) -> bool
+    ensures { result ≡ spec.is_given (option_map (λ w. w.now) word.entry) }
+{
+    match word {
+        Some("true") => true,
+        _ => false,
+    }
+}
+
+/// The order that checks this archive or this book's file, and tells of each posting where that is asked for.
+fn audit_of<'a>(file: Option<&'a str>, is_each: bool) -> Option<Order<'a>>
+    ensures { option_map seen result ≡ option_map (spec.audit_order is_each) (option_map (λ f. f.now) file.entry) }
 {
     let file = file?;
-    match all {
-        Some("true") => Some(Order::AuditEach(file)),
-        _ => Some(Order::Audit(file)),
+    if is_each {
+        Some(Order::AuditEach(file))
+    } else {
+        Some(Order::Audit(file))
     }
 }
 
@@ -184,16 +204,23 @@ fn migrate_of<'a>(file: Option<&'a str>) -> Option<Order<'a>>
     }
 }
 
-/// A gas day, with the archive or on the book's file where one is named. Both together name no order.
-fn day_kept_in<'a>(archive: Option<&'a str>, book: Option<&'a str>) -> Option<Order<'a>>
-    ensures { option_map seen result
-        ≡ spec.day_kept_in (option_map (λ f. f.now) archive.entry) (option_map (λ f. f.now) book.entry) }
+/// A gas day, with the archive or on the book's file where one is named. Both together name no order, and no gas day on a book's file
+/// is strict.
+fn day_kept_in<'a>(
+    is_strict: bool,
+    archive: Option<&'a str>,
+    book: Option<&'a str>,
+) -> Option<Order<'a>>
+    ensures { option_map seen result ≡ spec.day_kept_in is_strict
+        (option_map (λ f. f.now) archive.entry) (option_map (λ f. f.now) book.entry) }
 {
-    match (archive, book) {
-        (None, None) => Some(Order::Text(Command::Day)),
-        (Some(archive), None) => Some(Order::ArchivedDay(archive)),
-        (None, Some(book)) => Some(Order::LiveDay(book)),
-        (Some(_), Some(_)) => None,
+    match (is_strict, archive, book) {
+        (false, None, None) => Some(Order::Text(Command::Day)),
+        (true, None, None) => Some(Order::Text(Command::StrictDay)),
+        (is_strict, Some(file), None) => Some(Order::ArchivedDay { file, is_strict }),
+        (false, None, Some(book)) => Some(Order::LiveDay(book)),
+        (_, Some(_), Some(_)) => None,
+        (true, None, Some(_)) => None,
     }
 }
 
@@ -222,9 +249,18 @@ fn order_from<'a>(name: &str, given: &ArgMatches<'a>) -> Option<Order<'a>>
         "check" => check_of(word_given(given, "what"), text_count(given)),
         "solve" => Some(Order::Text(Command::Solve)),
         "calendar" => Some(Order::Text(Command::Calendar)),
-        "day" => day_kept_in(word_given(given, "archive"), word_given(given, "book")),
-        "office" => Some(Order::Text(Command::Office)),
-        "audit" => audit_of(word_given(given, "file"), word_given(given, "all")),
+        "day" => day_kept_in(
+            is_given(word_given(given, "strict")),
+            word_given(given, "archive"),
+            word_given(given, "book"),
+        ),
+        "office" => Some(Order::Office {
+            is_strict: is_given(word_given(given, "strict")),
+        }),
+        "audit" => audit_of(
+            word_given(given, "file"),
+            is_given(word_given(given, "all")),
+        ),
         "text" => book_text_of(word_given(given, "file")),
         "question" => question_of(
             word_given(given, "file"),
@@ -338,7 +374,7 @@ pub(crate) fn request_in<'a>(
 }
 
 /// Why words that clap takes name no order: a word is no check, and not one text stands behind it, or it is no cycle, no round or
-/// no number of seconds, or a gas day is given both an archive and a book's file.
+/// no number of seconds, or a gas day is given both an archive and a book's file, or is strict on a book's file.
 #[derive(Clone, Copy)]
 pub(crate) enum NoOrder<'a> {
     Check(&'a str),
@@ -346,6 +382,7 @@ pub(crate) enum NoOrder<'a> {
     Round(&'a str),
     Wait(&'a str),
     BothFiles,
+    StrictBook,
 }
 
 /// Why the matches name no order.
@@ -356,10 +393,11 @@ pub(crate) fn no_order_in<'a>(matches: &ArgMatches<'a>) -> NoOrder<'a> {
     if let Some(word) = given.get_str("what") {
         return NoOrder::Check(word);
     }
-    if let (Some(_), Some(_)) = (given.get_str("archive"), given.get_str("book")) {
-        return NoOrder::BothFiles;
+    match (given.get_str("archive"), given.get_str("book")) {
+        (Some(_), Some(_)) => NoOrder::BothFiles,
+        (None, Some(_)) if is_given(given.get_str("strict")) => NoOrder::StrictBook,
+        _ => no_number_in(given),
     }
-    no_number_in(given)
 }
 
 /// Which word that was given is no cycle or no number, where one is.

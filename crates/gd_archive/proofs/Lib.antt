@@ -4,3 +4,4 @@ pub mod Fetched
 pub mod Kept
 pub mod Found
 pub mod Refused
+pub mod Repeating

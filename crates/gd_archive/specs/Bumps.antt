@@ -1,5 +1,5 @@
 -- Which lines a posting bumps, beside the posting of the cycle before.
-use Rattle.std.specs.Prelude.{◌≡◌, ◌≢◌, ℕ, ◌+◌, ◌-◌, ◌==◌, ◌&&◌, min, nat_lt, List, filter, length, map, Option, Some, None, if◌then◌else◌}
+use Rattle.std.specs.Prelude.{◌≡◌, ◌≢◌, ℕ, ◌+◌, ◌==◌, ◌&&◌, nat_lt, List, filter, length, map, Option, Some, None, if◌then◌else◌}
 use Rattle.std.specs.List.{range_with_len}
 use Rattle.std.specs.Str.{bytes_eq}
 use Rattle.sqlite.specs.Order.{Row, column}
@@ -10,9 +10,6 @@ use Rattle.gd_board.specs.declared.posting.Posting.{Posting}
 use Rattle.gd_archive.specs.Soundness.{count_of, posting_of, text_of}
 use Rattle.gd_archive.specs.declared.bumps.Bumps.{Bumps}
 use Rattle.gd_archive.specs.declared.bumps.Bumps.TheVariants.{Right, Wrong, Unchecked}
-
-abbrev pub left : ℕ → ℕ → ℕ → ℕ
-left former confirmed scheduled = min former confirmed - scheduled
 
 -- By how much a line is bumped where the former posting's schedule was in effect. The ceiling of a question's line is what is confirmed of it.
 abbrev pub taken : Posting → Posting → ℕ → ℕ

@@ -17,6 +17,8 @@ use Rattle.gd_body.specs.Rows.{body_text}
 use Rattle.gd_body.specs.Spread.{without_spread}
 use Rattle.gd_archive.specs.Soundness.{posting_of, posting_at, number, IsSound, Blames}
 use Rattle.gd_archive.specs.Findings.{AreFindings}
+use Rattle.gd_archive.specs.Repeats.{IsRepeat}
+use Rattle.gd_archive.specs.declared.repeat.Repeat.{Repeat}
 use Rattle.gd_archive.specs.declared.finding.Finding.{Finding}
 use Rattle.gd_archive.specs.declared.fault.Rule.{Rule}
 use Rattle.gd_archive.specs.declared.fault.Rule.TheVariants.{Classes, Spread}
@@ -80,6 +82,14 @@ module _ (old new : State) where
   Fetches book cycle (Err (fetch_fault.Store e)) = store.IsFailed old new e
   Fetches book cycle (Err fetch_fault.Damaged) =
       (row : Row) × store.Finds old new book cycle (Ok (Some row)) × Tells book cycle row (Err fetch_fault.Damaged)
+
+  -- How what is kept of a posting's book and cycle goes with it, if anything is, and nothing changes. A file of version 1 is refused as
+  -- such.
+  abbrev pub Compares : Posting → Result (Option Repeat) StoreFault → Type 0
+  Compares p (Ok None) = store.Finds old new p.book p.cycle (Ok None)
+  Compares p (Ok (Some repeat)) = (row : Row) × store.Finds old new p.book p.cycle (Ok (Some row)) × IsRepeat row p repeat
+  Compares p (Err store_fault.OldVersion) = SaysVersion old.now 1 × IsSame old new
+  Compares p (Err (store_fault.Store e)) = store.IsFailed old new e
 
   -- Each row is sound, and they are counted; or the first that is not is told, of the rows in their order. A file of version 1
   -- is refused as such.

@@ -2,4 +2,5 @@ pub mod Faults
 pub mod Soundness
 pub mod Bumps
 pub mod Findings
+pub mod Repeats
 pub mod Calls

@@ -1,6 +1,6 @@
 //! Whether the bumped lines that a posting tells are what its schedule takes from the schedule before it.
 
-ghost use Rattle.std.specs.Prelude.{◌≡◌, ◌++◌, ◌∷◌, [], ◌<◌, nat_lt, length, if◌then◌else◌, option_map, Some, IfOk, OnOk};
+ghost use Rattle.std.specs.Prelude.{◌≡◌, ◌<◌, length, option_map, Some, IfOk};
 ghost use Rattle.gd_rules.specs.Schedule.{quantity};
 ghost use Rattle.gd_archive.specs.Bumps as spec;
 
@@ -9,6 +9,7 @@ use crate::row::Label;
 use crate::sound::posting_at;
 use gd_board::{Bumped, Posting};
 use gd_body::BodyFault;
+use gd_bounds::bumped;
 use gd_schedule::Schedule;
 use gd_units::Dth;
 use sqlite::{Error, Row};
@@ -26,23 +27,12 @@ pub enum Bumps {
 }
 
 /// What a schedule gives a line, which is nothing where the schedule is older than the line.
-fn quantity_at(schedule: &Schedule, line: usize) -> u64
+fn quantity_at(schedule: &Schedule, line: usize) -> Dth
     ensures { result ≡ quantity schedule.now line }
 {
     match schedule.quantities().get(line) {
-        Some(quantity) => quantity.get(),
-        None => 0,
-    }
-}
-
-/// What is left of a confirmed quantity, as far as it was scheduled before, after the new schedule is taken off.
-fn less(former: u64, confirmed: Dth, scheduled: u64) -> Dth
-    ensures { result ≡ spec.left former confirmed scheduled }
-{
-    let left = former.min(confirmed.get()).saturating_sub(scheduled);
-    match Dth::new(left) {
-        Ok(quantity) => quantity,
-        Err(_) => { unreachable!() }
+        Some(quantity) => *quantity,
+        None => Dth::ZERO,
     }
 }
 
@@ -51,25 +41,12 @@ fn taken(former: &Posting, posting: &Posting, line: usize) -> Dth
     requires { line < length posting.now.question.asked.lines }
     ensures { result ≡ spec.taken former.now posting.now line }
 {
-    if posting.cycle.number() == 1 {
-        return Dth::ZERO;
-    }
-    less(
+    bumped(
+        posting.cycle,
         quantity_at(&former.schedule, line),
         posting.question.ceiling(line),
         quantity_at(&posting.schedule, line),
     )
-}
-
-/// Adds a line that is bumped, last.
-fn push_taken(lines: &mut Vec<(u32, Dth)>, line: u32, by: Dth) -> Result<(), AllocError>
-    ensures { OnOk result (lines.new.items
-        ≡ lines.old.items ++ (if nat_lt 0 by then (line, by) ∷ [] else [])) }
-{
-    if by.get() > 0 {
-        lines.push((line, by))?;
-    }
-    Ok(())
 }
 
 /// The lines that a posting bumps of the one before, in order. The only error is want of memory.
@@ -77,11 +54,11 @@ fn taken_lines(alloc: Global, former: &Posting, posting: &Posting) -> Result<Bum
     ensures { IfOk result (λ lines. lines ≡ spec.taken_lines former.now posting.now) }
 {
     posting.question.known();
-    let mut lines = Vec::new(alloc);
+    let mut lines = Bumped::of(Vec::new(alloc));
     for line in 0..posting.question.line_count() as u32 {
-        push_taken(&mut lines, line, taken(former, posting, line as usize))?;
+        lines.push(line, taken(former, posting, line as usize))?;
     }
-    Ok(Bumped::of(lines))
+    Ok(lines)
 }
 
 /// What is found of the bumped lines of a posting beside the one before. The only error is want of memory.

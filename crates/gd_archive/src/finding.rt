@@ -56,7 +56,7 @@ fn total_of(schedule: &Schedule) -> u64
 }
 
 /// The SHA-256 of what a row keeps as a text.
-fn sum_of(body: ValueRef<'_>) -> [u8; 32]
+pub(crate) fn sum_of(body: ValueRef<'_>) -> [u8; 32]
     ensures { result ≡ spec.sum_of (owned body.entry) }
 {
     match body {

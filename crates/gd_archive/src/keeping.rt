@@ -65,7 +65,7 @@ fn by_rule(alloc: Global, rule: Rule, posting: Posting) -> Result<Posting, Fetch
 }
 
 /// What a row of round, body and rule keeps of a book and cycle.
-fn told_in(
+pub(crate) fn told_in(
     alloc: Global,
     book: Name,
     cycle: CycleNo,

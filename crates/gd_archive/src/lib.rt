@@ -12,6 +12,7 @@ mod finding;
 mod keeping;
 mod laws;
 mod migration;
+mod repeat;
 mod row;
 mod sound;
 
@@ -23,3 +24,4 @@ pub use gd_archive_store::{KeepFault, MigrateFault, StoreFault, make};
 pub use keeping::{fetch, keep};
 pub use laws::fetched_once_kept;
 pub use migration::migrate;
+pub use repeat::{Repeat, compare};

@@ -1,6 +1,6 @@
 //! What is published of a cycle.
 
-ghost use Rattle.std.specs.Prelude.{◌≡◌, ◌↔◌, IsTrue, IfOk};
+ghost use Rattle.std.specs.Prelude.{◌≡◌, ◌↔◌, IsTrue, ◌++◌, ◌∷◌, [], nat_lt, if◌then◌else◌, IfOk, OnOk};
 
 use gd_certificate::Prices;
 use gd_cost::Tariff;
@@ -39,6 +39,16 @@ impl Bumped {
         ensures { result ≡ lines.items }
     {
         Bumped { lines }
+    }
+
+    /// Adds a line from which so much is taken, last; one from which nothing is taken is left out.
+    pub fn push(&mut self, line: u32, by: Dth) -> Result<(), AllocError>
+        ensures { OnOk result (self.new ≡ self.old ++ (if nat_lt 0 by then (line, by) ∷ [] else [])) }
+    {
+        if by.get() > 0 {
+            self.lines.push((line, by))?;
+        }
+        Ok(())
     }
 
     /// The lines with what is taken from them, in order.

@@ -12,7 +12,7 @@ use gd_board::Posting;
 use std::alloc::{AllocError, Global};
 
 /// Whether both are the same posting.
-fn same_posting(a: &Posting, b: &Posting) -> bool
+pub fn same_posting(a: &Posting, b: &Posting) -> bool
     ensures { IsTrue result ↔ (a.now ≡ b.now) }
 {
     a.book == b.book

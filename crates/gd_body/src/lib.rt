@@ -15,7 +15,7 @@ mod row;
 mod spread;
 mod taken;
 
-pub use body::body_of;
+pub use body::{body_of, same_posting};
 pub use fault::BodyFault;
 pub use laws::{bumped_lines_rise, publishable_posting_reads_back};
 pub use question::write_question;

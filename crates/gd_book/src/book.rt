@@ -258,6 +258,13 @@ impl Book {
         self.ledger.opening.contracts().system()
     }
 
+    /// When the marks of its gas day's cycles fall due.
+    pub fn calendar(&self) -> &Calendar
+        ensures { result.now ≡ self.now.day.moments }
+    {
+        self.ledger.opening.calendar()
+    }
+
     /// The frozen question, if the cycle is frozen.
     pub fn frozen(&self) -> Option<&Question>
         ensures { MatchOption result (is_frozen self.now.history ≡ false)

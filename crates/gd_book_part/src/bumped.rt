@@ -1,8 +1,6 @@
 //! The lines that a schedule bumps.
 
-ghost use Rattle.std.specs.Prelude.{◌≡◌, ◌-◌, ◌<◌, nat_lt, None, IfOk, OnOk, min, ◌++◌, ◌∷◌, [], if◌then◌else◌};
-ghost use Rattle.gd_rules.specs.Bounds as bounds;
-ghost use Rattle.gd_rules.specs.Schedule.{quantity};
+ghost use Rattle.std.specs.Prelude.{◌≡◌, ◌<◌, None, IfOk};
 ghost use Rattle.gd_machine.specs.History.{cycle_of};
 ghost use Rattle.gd_machine.specs.Asking.{line_count, bumped_by, bumped_lines};
 ghost use Rattle.gd_machine.specs.Known.{IsSound};
@@ -14,40 +12,12 @@ use crate::answer::{number_of, quantity_of};
 use crate::opening::Opening;
 use crate::tables::Tables;
 use gd_board::Bumped;
+use gd_bounds::bumped;
 use gd_certificate::Checked;
 use gd_machine::{Event, Reply};
 use gd_schedule::Schedule;
 use gd_units::{CycleNo, Dth, Moment};
 use std::alloc::{AllocError, Global};
-
-/// What is left of a quantity after another is taken off.
-fn less(a: Dth, b: Dth) -> Dth
-    ensures { result ≡ a - b }
-{
-    let left = a.get().saturating_sub(b.get());
-    match Dth::new(left) {
-        Ok(quantity) => quantity,
-        Err(_) => unreachable!(),
-    }
-}
-
-/// The lesser of two quantities.
-fn lesser(a: Dth, b: Dth) -> Dth
-    ensures { result ≡ min a b }
-{
-    if a < b { a } else { b }
-}
-
-/// Adds a line that is bumped, last.
-fn push_bumped(lines: &mut Vec<(u32, Dth)>, line: u32, by: Dth) -> Result<(), AllocError>
-    ensures { OnOk result (lines.new.items
-        ≡ lines.old.items ++ (if nat_lt 0 by then (line, by) ∷ [] else [])) }
-{
-    if by.get() > 0 {
-        lines.push((line, by))?;
-    }
-    Ok(())
-}
 
 impl Tables {
     /// By how much a schedule bumps a line.
@@ -65,12 +35,9 @@ impl Tables {
         requires known { line < line_count opening.now history.now }
         ensures { result ≡ bumped_by opening.now history.now schedule.now line }
     {
-        if cycle.number() == 1 {
-            return Dth::ZERO;
-        }
         let former = self.former_of(opening, history, cycle, line);
         let terms = self.terms_of(opening, history, cycle, line);
-        less(lesser(former, terms.ceiling), quantity_of(schedule, line))
+        bumped(cycle, former, terms.ceiling, quantity_of(schedule, line))
     }
 
     /// The lines that a schedule bumps, in order.
@@ -89,12 +56,12 @@ impl Tables {
             ≡ bumped_lines opening.now history.now schedule.now) }
     {
         let count = self.asked_lines(opening, history, cycle);
-        let mut lines = Vec::new(alloc);
+        let mut lines = Bumped::of(Vec::new(alloc));
         for line in 0..count {
             let by = self.bumped_by(opening, history, cycle, schedule, line);
-            push_bumped(&mut lines, line, by)?;
+            lines.push(line, by)?;
         }
-        Ok(Bumped::of(lines))
+        Ok(lines)
     }
 
     /// What is answered to an accepted publish.

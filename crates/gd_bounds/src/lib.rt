@@ -98,3 +98,13 @@ pub fn floor(protected: bool, elapsed: Dth, former: Dth, confirmed: Dth) -> Dth
         elapsed
     }
 }
+
+/// By how much a line is bumped (own): what of the former schedule is confirmed, less the new schedule. In Timely nothing is.
+pub fn bumped(cycle: CycleNo, former: Dth, confirmed: Dth, scheduled: Dth) -> Dth
+    ensures { result ≡ rules.bumped cycle former confirmed scheduled }
+{
+    if cycle.number() == 1 {
+        return Dth::ZERO;
+    }
+    dekatherms(former.min(confirmed).get().saturating_sub(scheduled.get()))
+}

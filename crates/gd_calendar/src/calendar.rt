@@ -241,6 +241,13 @@ impl Calendar {
         (length / 3600) as u8
     }
 
+    /// The moment at which the gas day ends, and the next one starts.
+    pub fn finish(&self) -> Moment
+        ensures { result ≡ spec.finish self.now }
+    {
+        self.moments[FINISH]
+    }
+
     /// How many hours of the gas day are over when the cycle takes effect: 0, 0, 5, 9 or 13.
     pub fn elapsed(&self, cycle: CycleNo) -> u8
         ensures is { result ≡ gas_day.hours_over cycle }

@@ -1,9 +1,7 @@
 -- What the last event of a history tells of the book after it.
-use Rattle.std.proofs.Common.{◌≡◌, ◌∙◌, ℕ, ◌+◌, ◌<◌, Bool, true, false, ◌&&◌, [], ◌∷◌, ◌++◌, length, take, get_or, Some, refl, sym, ap, ap₂, arith}
+use Rattle.std.proofs.Common.{◌≡◌, ◌∙◌, ℕ, ◌+◌, ◌<◌, true, [], ◌∷◌, ◌++◌, length, take, get_or, Some, refl, sym, ap, ap₂, arith}
 use Rattle.std.proofs.lemmas.List.{take_more, take_all}
 use Rattle.std.proofs.lemmas.Option.{slice_get-get_or}
-use Rattle.std.proofs.lemmas.Bool.{eqb-true, false≢true}
-use Rattle.gd_system.specs.Pipeline.{Pipeline}
 use Rattle.gd_certificate.specs.Cutting.{Members}
 use Rattle.gd_certificate.specs.Explained.{IsShaped}
 use Rattle.gd_machine.specs.declared.event.Event.{Event}
@@ -12,8 +10,8 @@ use Rattle.gd_machine.specs.declared.reply.Reply.{Reply}
 use Rattle.gd_machine.specs.declared.reply.Reply.TheVariants as reply
 use Rattle.gd_machine.specs.Day.{Day}
 use Rattle.gd_machine.specs.History.{History, is_frozen}
-use Rattle.gd_machine.specs.Machine.{IsAccepted, IsLegal, is_shaped, tests_of}
-use Rattle.gd_machine.proofs.Legal.{all_false, not_false}
+use Rattle.gd_machine.specs.Machine.{IsAccepted, IsLegal}
+use Rattle.gd_machine.proofs.Shapes as shapes
 use Rattle.gd_machine.proofs.Steps.{frozen_more}
 
 -- a history ends in one way
@@ -52,19 +50,6 @@ froze day h (event.Declare moment asked cut) number cycle round lines accepted =
 froze day h (event.Waive moment line) number cycle round lines accepted = let bad = accepted.1 in cc
 froze day h (event.Skip moment) number cycle round lines accepted = let bad = accepted.1 in cc
 
-both_hold : (a b : Bool) → (a && b) ≡ true → (a ≡ true) × (b ≡ true)
-both_hold true true e = (refl, refl)
-both_hold true false e = absurd (false≢true e)
-both_hold false b e = absurd (false≢true e)
-
-shaped_by : (p : Pipeline) (cut : Members) → is_shaped p cut ≡ true → IsShaped p cut
-shaped_by p cut e =
-    let first = both_hold _ _ e in
-    let later = both_hold _ _ first.1 in
-    (eqb-true _ _ first.0, eqb-true _ _ later.0, eqb-true _ _ later.1)
-
 -- the cut of an accepted declare is one of the pipeline
 pub shaped : (day : Day) (h : History) (moment round : ℕ) (cut : Members) (r : Reply) → IsAccepted day h (event.Declare moment round cut, r) → IsShaped day.holdings.pipeline cut
-shaped day h moment round cut r accepted =
-    let tests = all_false (tests_of day h (event.Declare moment round cut)) accepted.0 in
-    shaped_by day.holdings.pipeline cut (not_false (is_shaped day.holdings.pipeline cut) tests.1.1.0)
+shaped = shapes.shaped

@@ -12,6 +12,7 @@ ghost use Rattle.gd_live.specs.Lines.{Concludes, IsAcceptable};
 use crate::acceptance::{names_cut, offers_best};
 use gd_board::{Board, BoardNote};
 use gd_book::{Book, Event, MAX_EVENTS, Replay, Reply as BookReply};
+use gd_calendar::Calendar;
 use gd_course::call;
 use gd_day::check_call;
 use gd_question::Question;
@@ -91,6 +92,13 @@ impl PostedBook {
             × (asked.now ≡ question self.now.day self.now.history)) }
     {
         self.book.frozen()
+    }
+
+    /// The calendar of the gas day.
+    pub(crate) fn calendar(&self) -> &Calendar
+        ensures { result.now ≡ self.now.day.moments }
+    {
+        self.book.calendar()
     }
 
     /// How many events were accepted.

@@ -8,6 +8,7 @@ ghost use Rattle.gd_live.specs.Seen.{at_desk};
 use crate::live_book::LiveBook;
 use crate::room::Room;
 use gd_book::{Book, Event, Replay, Reply};
+use gd_calendar::Calendar;
 use gd_serving::{Given, TakesLines};
 use gd_units::Name;
 use std::alloc::{AllocError, Global};
@@ -50,6 +51,13 @@ impl Desk {
         ensures holds { Holds (at_desk self.now).day (at_desk self.now).history }
     {
         self.book.history()
+    }
+
+    /// The calendar of the gas day.
+    pub fn calendar(&self) -> &Calendar
+        ensures { result.now ≡ (at_desk self.now).day.moments }
+    {
+        self.book.calendar()
     }
 
     /// A walk along the history, from its beginning. The only error is want of memory.

@@ -18,6 +18,7 @@ use crate::conclusion::{Conclusion, conclusion_of};
 use crate::group::Group;
 use crate::room::Room;
 use gd_book::{Book, Event, Replay, Reply as BookReply};
+use gd_calendar::Calendar;
 use gd_day::{check_call, event_of};
 use gd_replies::Reply;
 use gd_serving::Given;
@@ -67,6 +68,13 @@ impl LiveBook {
         ensures holds { Holds self.now.book.day self.now.book.history }
     {
         self.book.history()
+    }
+
+    /// The calendar of the gas day.
+    pub(crate) fn calendar(&self) -> &Calendar
+        ensures { result.now ≡ self.now.book.day.moments }
+    {
+        self.book.calendar()
     }
 
     /// A walk along the history, from its beginning.

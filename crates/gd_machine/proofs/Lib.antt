@@ -6,6 +6,7 @@ pub mod Refusals
 pub mod Steps
 pub mod Same
 pub mod Legal
+pub mod Shapes
 pub mod ImpossibleCycles
 pub mod PoolExamples
 pub mod Times

@@ -20,4 +20,5 @@ mod text;
 mod written;
 
 pub use message::message_of;
+pub use shown::Count;
 pub use text::{Part, Source};

@@ -60,7 +60,7 @@ impl fmt::Display for Place<'_> {
 
 /// A number of things, with their name in the singular or the plural.
 #[derive(Clone, Copy)]
-pub(crate) struct Count(pub(crate) usize, pub(crate) &'static str);
+pub struct Count(pub usize, pub &'static str);
 
 impl fmt::Display for Count {
     fn fmt<W: fmt::Write>(&self, f: &mut fmt::Formatter<W>) -> fmt::Result {

@@ -1,7 +1,7 @@
 -- What a reader of a history meets at a place.
-use Rattle.std.proofs.Common.{◌≡◌, ℕ, Bool, true, false, List, take, Some, None, Option, refl, sym, subst, ap, ◌∙◌}
-use Rattle.std.specs.Prelude.{◌&&◌, slice_get}
-use Rattle.std.proofs.lemmas.Bool.{false≢true, eqb-true}
+use Rattle.std.proofs.Common.{◌≡◌, ℕ, true, false, List, take, Some, None, Option, sym, subst, ap, ◌∙◌}
+use Rattle.std.specs.Prelude.{slice_get}
+use Rattle.std.proofs.lemmas.Bool.{false≢true}
 use Rattle.gd_certificate.specs.Checked.{Certificate, IsRight}
 use Rattle.gd_certificate.specs.Cutting.{Members}
 use Rattle.gd_certificate.specs.Explained.{IsShaped}
@@ -11,10 +11,10 @@ use Rattle.gd_machine.specs.declared.reply.Reply.{Reply}
 use Rattle.gd_machine.specs.Day.{Day}
 use Rattle.gd_machine.specs.History.{History}
 use Rattle.gd_machine.specs.Asking.{question}
-use Rattle.gd_machine.specs.Machine.{IsLegal, is_shaped, tests_of}
+use Rattle.gd_machine.specs.Machine.{IsLegal}
 use Rattle.gd_machine.proofs.ImpossibleCycles.{declared_cuts}
-use Rattle.gd_machine.proofs.Legal.{all_false, not_false, published_fits}
-use Rattle.gd_system.specs.Pipeline.{Pipeline}
+use Rattle.gd_machine.proofs.Legal.{published_fits}
+use Rattle.gd_machine.proofs.Shapes.{shaped}
 use Rattle.gd_rounds.specs.Outcomes.{Declares, Meets, Publishes}
 use Rattle.gd_rounds.specs.Rounds.{answers, Asks, Certifies, IsAnswered, Refutes, Says}
 
@@ -45,17 +45,6 @@ pub not_answered : (next : Option (Event × Reply)) → Meets (λ event. answers
 not_answered None met answered = met
 not_answered (Some p) met answered = false≢true (sym met ∙ answered)
 
-both_hold : (a b : Bool) → (a && b) ≡ true → (a ≡ true) × (b ≡ true)
-both_hold true true e = (refl, refl)
-both_hold true false e = absurd (false≢true e)
-both_hold false b e = absurd (false≢true e)
-
-shaped_by : (p : Pipeline) (cut : Members) → is_shaped p cut ≡ true → IsShaped p cut
-shaped_by p cut e =
-    let first = both_hold _ _ e in
-    let later = both_hold _ _ first.1 in
-    (eqb-true _ _ first.0, eqb-true _ _ later.0, eqb-true _ _ later.1)
-
 module _ (day : Day) (h : History) (legal : IsLegal day h) (place : ℕ) where
   -- the text of a question that nothing answered yet
   pub says_nothing : (text : List ℕ) → slice_get h place ≡ None → Asks (question day (take place h)) text → Says day (take place h) (slice_get h place) text
@@ -71,9 +60,7 @@ module _ (day : Day) (h : History) (legal : IsLegal day h) (place : ℕ) where
   pub declare_shaped : (m : Members) → Meets (Declares m) (slice_get h place) → IsShaped day.holdings.pipeline m
   declare_shaped m met =
       let (moment, round, reply, at) = met_declare m (slice_get h place) met in
-      let accepted = legal place (Declare moment round m, reply) at in
-      let tests = all_false (tests_of day (take place h) (Declare moment round m)) accepted.0 in
-      shaped_by day.holdings.pipeline m (not_false (is_shaped day.holdings.pipeline m) tests.1.1.0)
+      shaped day (take place h) moment round m reply (legal place (Declare moment round m, reply) at)
 
   -- the text of a question that was declared to have no allowed schedule
   pub says_declare : (m : Members) (text : List ℕ) → Meets (Declares m) (slice_get h place) → Refutes (question day (take place h)) m text → Says day (take place h) (slice_get h place) text

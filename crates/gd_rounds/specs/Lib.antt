@@ -1,3 +1,4 @@
 pub mod Rounds
+pub mod Summaries
 pub mod Outcomes
 pub mod Carried

@@ -13,6 +13,6 @@ invariant-cycles g l = record {
   board : l.note.cells ≡ l.board;
   stays : StaysKnown l.fn.note l.note;
   clean : HasCleanDisk (state g.S.Store l.conn) → HasCleanDisk (state g.S.Store l.fn.conn);
-  kept : HasCleanDisk (state g.S.Store l.conn) → SoFar g.S.Store (IsKnownIn l.fn.note) l.cycles l.cycle-index l.fn.conn l.conn l.fn.told.items l.told.items l.status;
+  kept : HasCleanDisk (state g.S.Store l.conn) → SoFar g.S.Store l.is_strict (IsKnownIn l.fn.note) l.cycles l.cycle-index l.fn.conn l.conn l.fn.told.items l.told.items l.status;
   room : vec_len l.told + (length l.cycles - l.cycle-index) ≤ vec_capacity l.told;
 }

@@ -22,7 +22,7 @@ returns-clause-kept g c clean =
     let former = c.args.told.now.items in
     let told = c.keep_all.new.told.items in
     IfOk-weaker c.keep_all.result _ _
-    (λ status keeps. told_weaker g.S.Store (IsKnownIn known) (IsPublishedIn b.day b.history) (published_cycles b.history) old new former told status
+    (λ status keeps. told_weaker g.S.Store c.args.is_strict (IsKnownIn known) (IsPublishedIn b.day b.history) (published_cycles b.history) old new former told status
     (all_published b.day b.history known (all_held b.day b.history known c.history.ensures.legal c.requires.posted))
-    (subst (λ (cycles : List ℕ). KeepsTold g.S.Store (IsKnownIn known) cycles old new former told status) same keeps))
+    (subst (λ (cycles : List ℕ). KeepsTold g.S.Store c.args.is_strict (IsKnownIn known) cycles old new former told status) same keeps))
     (c.keep_all.ensures.kept clean)

@@ -12,17 +12,17 @@ returns-in-Ok g c =
     let gives = g.O.Opener.opens c.args.opener in
     let rows = c.args.rows.now in
     let o : Opened = record { date = c.in-Ok.text.date; zone = c.in-Ok.text.zone; book = c.in-Ok.text.book; holdings = c.in-Ok.text.contracts; carry = c.in-Ok.text.carry.items } in
-    told_so (TellsDate g.S.Store gives rows o) (TellsDay g.S.Store gives rows (opened_of rows)) c.tell_text.result.archive c.tell_text.result.answer
-    (λ a t. subst (λ (r : Result Opened TextFault). TellsDay g.S.Store gives rows r c.tell_text.result.archive a) (sym c.in-Ok.ensures.values) t) c.tell_text.ensures
+    told_so (TellsDate g.S.Store gives c.args.is_strict rows o) (TellsDay g.S.Store gives c.args.is_strict rows (opened_of rows)) c.tell_text.result.archive c.tell_text.result.answer
+    (λ a t. subst (λ (r : Result Opened TextFault). TellsDay g.S.Store gives c.args.is_strict rows r c.tell_text.result.archive a) (sym c.in-Ok.ensures.values) t) c.tell_text.ensures
 
 pub returns-in-Err : goal.returns-in-Err
 returns-in-Err g c =
     let gives = g.O.Opener.opens c.args.opener in
     let rows = c.args.rows.now in
-    unopened (TellsDay g.S.Store gives rows (opened_of rows)) c.unopened.result.archive c.of_fault.result c.unopened.result.answer c.unopened.ensures.archive c.unopened.ensures.answer
+    unopened (TellsDay g.S.Store gives c.args.is_strict rows (opened_of rows)) c.unopened.result.archive c.of_fault.result c.unopened.result.answer c.unopened.ensures.archive c.unopened.ensures.answer
     (IfOk-weaker c.of_fault.result _ _
     (λ a t. elim c.in-Err.ensures.values [
       | inl memory ↦ absurd (t.0 memory)
-      | inr is ↦ subst (λ (r : Result Opened TextFault). TellsDay g.S.Store gives rows r None (answer_seen a)) (sym is) (refl, t.1)
+      | inr is ↦ subst (λ (r : Result Opened TextFault). TellsDay g.S.Store gives c.args.is_strict rows r None (answer_seen a)) (sym is) (refl, t.1)
     ])
     c.of_fault.ensures)

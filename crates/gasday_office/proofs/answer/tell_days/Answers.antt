@@ -14,5 +14,5 @@ returns g c =
     let days = c.args.days.items in
     let asked = rw (c.as_slice-2.ensures.value, c.as_slice-3.ensures.value) at c.in_ok-phases.ensures in
     let many : vec_len c.in_ok-books.books ≡ length c.args.days.items = let b = c.in_ok-books.ensures.len in search rules in
-    tells_days c.tell_books.result days (map (λ b. b.day) c.in_ok-books.books.items) (vec_len c.in_ok-books.books) (map phase c.in_ok-texts.texts.items) c.in_ok-phases.phases.items c.args.rows.now
+    tells_days c.args.is_strict c.tell_books.result days (map (λ b. b.day) c.in_ok-books.books.items) (vec_len c.in_ok-books.books) (map phase c.in_ok-texts.texts.items) c.in_ok-phases.phases.items c.args.rows.now
     c.in_ok-books.ensures.each c.in_ok-texts.ensures asked many (rw c.as_slice-4.ensures.value at c.tell_books.ensures)

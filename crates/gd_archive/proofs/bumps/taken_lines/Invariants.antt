@@ -6,4 +6,4 @@ use Rattle.gd_archive.proofs.bumps.taken_lines.Given as goal
 
 -- The bumped lines so far.
 abbrev pub invariant-loop-line : goal.invariant-loop-line
-invariant-loop-line l = l.lines.items ≡ filter (λ b. nat_lt 0 b.1) (map (λ i. (i, taken l.former l.posting i)) (range_with_len 0 l.line))
+invariant-loop-line l = l.lines ≡ filter (λ b. nat_lt 0 b.1) (map (λ i. (i, taken l.former l.posting i)) (range_with_len 0 l.line))

@@ -15,7 +15,7 @@ bumped_more f n =
 pub loop-line-preserved : goal.loop-line-preserved
 loop-line-preserved c =
     let f : ℕ → ℕ × ℕ = λ n. (n, bumped_by c.args.opening.now c.args.history.now c.args.schedule.now n) in
-    c.in_ok-push_bumped.ensures
+    c.in_ok-push.ensures
     ∙ ap (λ (l : List (ℕ × ℕ)). l ++ (if nat_lt 0 c.bumped_by-by.result then (c.loop-line.line, c.bumped_by-by.result) ∷ [] else [])) c.loop-line.invariant
     ∙ ap (λ n. filter (λ b. nat_lt 0 b.1) (map f (range_with_len 0 c.loop-line.line)) ++ (if nat_lt 0 n then (c.loop-line.line, n) ∷ [] else [])) c.bumped_by-by.ensures
     ∙ sym (bumped_more f c.loop-line.line)
@@ -26,4 +26,4 @@ returns c =
     let end = c.loop-line.auto in
     let past = c.loop-line-test.false in
     let all : c.loop-line.line ≡ line_count c.args.opening.now c.args.history.now = omega (arith, count, end.line-end, past) in
-    c.of.ensures ∙ c.loop-line.invariant ∙ ap (λ n. filter (λ b. nat_lt 0 b.1) (map (λ (k : ℕ). (k, bumped_by c.args.opening.now c.args.history.now c.args.schedule.now k)) (range_with_len 0 n))) all
+    c.loop-line.invariant ∙ ap (λ n. filter (λ b. nat_lt 0 b.1) (map (λ (k : ℕ). (k, bumped_by c.args.opening.now c.args.history.now c.args.schedule.now k)) (range_with_len 0 n))) all
