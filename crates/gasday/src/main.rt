@@ -31,13 +31,15 @@ use crate::told::{
 };
 use gasday_archive::{Opener, Outcome, answer_to};
 use gasday_office::answer_office;
-use gasday_part::{Inquiry, Written, ask_text, last_of, of_fault, summary_in, write_answer};
+use gasday_part::{
+    Answer, Inquiry, Written, ask_text, last_of, of_fault, summary_in, write_answer,
+};
 use gasday_words::{Order, Request, UsageFault, request_of};
 use gd_replies::Reply;
 use gd_text_part::TextFault;
 use sqlite::{Alter, Connection, Error, FileStore};
 use sqlite_disk::Disk;
-use std::alloc::Global;
+use std::alloc::{AllocError, Global};
 use std::io::{Read, Write};
 use std::process::ExitCode;
 use std::sync::Wait;
@@ -101,6 +103,19 @@ fn answered<T: Threads + Wait + Clock + Sync, S: Alter + Drop, O: Opener<S>>(
     }
 }
 
+/// The row that tells why an answer isn't good: of an office's that of the last slot that is not reconciled, where one is, and else the
+/// last one.
+fn telling_row(order: Order<'_>, answer: &Result<Answer, AllocError>) -> Option<Reply> {
+    if let (Order::Office { .. }, Ok(answer)) = (order, answer) {
+        for row in answer.replies.as_slice().iter().rev() {
+            if matches!(row, Reply::Mismatch { .. } | Reply::Missing { .. }) {
+                return Some(*row);
+            }
+        }
+    }
+    last_of(answer)
+}
+
 /// Carries out an order over the bytes of its text: writes its answer and nothing else.
 fn run_over<T: Threads + Wait + Clock + Sync, S: Alter + Drop, W: Write, O: Opener<S>>(
     threads: &T,
@@ -120,7 +135,7 @@ fn run_over<T: Threads + Wait + Clock + Sync, S: Alter + Drop, W: Write, O: Open
         repeats,
     } = answered(threads, alloc, order, text, opener);
     let status = write_answer(alloc, writer, &answer);
-    let last = last_of(&answer);
+    let last = telling_row(order, &answer);
     let course = match summary_in(&answer) {
         Some(summary) => Some(Course { summary, repeats }),
         None => {
@@ -153,6 +168,20 @@ struct Ended<'a, S: Alter + Drop> {
     unwritten: Option<io::Error>,
 }
 
+/// Whether all that an archive had is what was published, of which a strict gas day takes no account.
+fn is_repeated(order: Order<'_>, course: &Option<Course>) -> bool {
+    match (order, course) {
+        (
+            Order::ArchivedDay {
+                is_strict: true,
+                ..
+            },
+            Some(course),
+        ) => course.is_repeated(),
+        _ => false,
+    }
+}
+
 /// Closes the file of an order that has ended, tells people why it didn't end well, and answers the exit status.
 fn end<D: Disk + Drop>(rt: &HostRuntime, order: Order<'_>, ended: Ended<'_, FileStore<D>>) -> u8 {
     let Ended {
@@ -176,6 +205,9 @@ fn end<D: Disk + Drop>(rt: &HostRuntime, order: Order<'_>, ended: Ended<'_, File
         (Some(error), _) => tell_unwritten(rt, error),
         // (Whoever couldn't open the file has told why.)
         (None, Some(Reply::Store | Reply::Busy)) if is_unopened => {}
+        // (What the course came to is told.)
+        (None, Some(Reply::Reconciled { .. })) => {}
+        (None, Some(Reply::Kept)) if is_repeated(order, &course) => {}
         (None, Some(last)) if status != 0 => tell_why(rt, order, &text, &last),
         _ => {}
     }

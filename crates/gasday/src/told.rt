@@ -126,6 +126,26 @@ fn tell_event(rt: &HostRuntime, number: usize, what: &str) {
     }
 }
 
+impl Course {
+    /// Whether each posting that the archive had is the very one that was published.
+    pub(crate) fn is_repeated(&self) -> bool {
+        match &self.repeats {
+            Some(repeats) => all_same(repeats.as_slice()),
+            None => false,
+        }
+    }
+}
+
+/// Whether each of these postings is the very one that was published.
+fn all_same(repeats: &[Repeated]) -> bool {
+    for repeated in repeats {
+        if !matches!(repeated.found, Some(Repeat::Same)) {
+            return false;
+        }
+    }
+    true
+}
+
 /// Tells what a gas day came to, and how what its archive had goes with what was published.
 pub(crate) fn tell_course(rt: &HostRuntime, course: &Course) {
     tell_summary(rt, &course.summary);
@@ -188,8 +208,13 @@ fn tell_late(rt: &HostRuntime, summary: &Summary) {
     let alloc = rt.alloc();
     if summary.late > 0 {
         let freezes = Count(summary.late, "freeze");
+        let were = if summary.late == 1 {
+            "its cycle was"
+        } else {
+            "their cycles were"
+        };
         if let Ok(message) = format!(in alloc;
-            "{freezes} came when its cycle was in effect already; look at the moments, and at the clock that gave them"
+            "{freezes} came when {were} in effect already; look at the moments, and at the clock that gave them"
         ) {
             tell(rt, message.as_str());
         }
