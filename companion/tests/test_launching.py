@@ -56,12 +56,30 @@ class Launching(ReportTest):
         self.put_program(prefix / "bin")
         self.assertEqual(self.ran(prefix / "bin" / "gasday-report", prefix / "bin" / "gasday-audit"), ["bin", "bin"])
 
-    def test_in_a_repository_the_script_that_builds_is_left_alone(self) -> None:
+    def put_script(self, repository: Path, takes: str) -> None:
+        """A script that does this where it is asked to take the release's program, and notes each other call of it."""
+        path = repository / "gasday"
+        path.write_text(f"#!/bin/sh\ncd '{repository}'\n[ \"$*\" = --take ] || echo 'the script' >> '{self.top}/ran'\n{takes}\n")
+        path.chmod(0o755)
+
+    def test_in_a_repository_the_script_never_builds(self) -> None:
         repository = self.top / "repository"
         self.put_tools(repository / "companion", repository / "examples" / "audit")
-        self.put_program(repository)
+        self.put_script(repository, "exit 1")
         (repository / "crates").mkdir()
         self.assertEqual(self.ran(repository / "companion" / "gasday-report"), ["path"])
+
+    def test_in_a_repository_the_release_is_taken_where_nothing_is_built(self) -> None:
+        repository = self.top / "repository"
+        self.put_tools(repository / "companion", repository / "examples" / "audit")
+        self.put_program(self.top / "of the release")
+        self.put_script(repository, f"mkdir -p crates/gasday/out && cp '{self.top}/of the release/gasday' crates/gasday/out/")
+        (repository / "crates").mkdir()
+        report = repository / "companion" / "gasday-report"
+        self.assertEqual(self.ran(report), ["of the release"])
+        # What is built is left as it is.
+        self.put_program(repository / "crates" / "gasday" / "out")
+        self.assertEqual(self.ran(report), ["out"])
 
 
 if __name__ == "__main__":
