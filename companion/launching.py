@@ -19,8 +19,8 @@ def take_release(script: str) -> None:
 def find_program() -> None:
     """Puts the folder of the program that came with these files first on the PATH: that of a release which is unpacked, or `bin`
     where all of it is installed. In the repository there is none: what is built there is found by its own place. Where nothing is
-    built the script `gasday` beside this folder is asked to take the release's program, which may be of other sources; it is never
-    asked to prove and build it, which may take hours."""
+    built the script `gasday` beside this folder is asked to take the release's program, where that is of these sources, and never
+    to prove and build it, which may take hours."""
     top = os.path.dirname(os.path.dirname(os.path.realpath(__file__)))
     if os.path.isdir(os.path.join(top, "crates")):
         if not is_program(os.path.join(top, "crates", PROGRAM, "out", PROGRAM)):
