@@ -1,12 +1,12 @@
 #!/usr/bin/env python3
-"""check_audited.py [--list | --read [PATH | COMMAND..]]
+"""check_audited.py [make | --list | --read [PATH | COMMAND..]]
 
 Finds the files of definitions that the statements of eight paths reach (below: PATHS), and compares them with `docs/AUDIT.md`:
 each file that is reached stands there exactly once, with the paths that reach it, in the section of the first of them; each
 that stands there is reached; the counts of lines are right, and so are the types of the program and the modules of the kit
 that the definitions name. With `--list` it prints the files that all paths reach, with their lines; with the name of a path
-behind it (`Best`, `Headline`, `Checks`, `Days`, `Archives`, `Offices`, `Books`, `Rounds`) those of that path, and with commands (such as
-`CheckBest CheckCut`) those that are reached by these commands of `gasday_part` alone. With `--read` and the same words it prints
+behind it (`Best`, `Headline`, `Checks`, `Days`, `Archives`, `Offices`, `Books`, `Rounds`) those of that path, and with commands
+(such as `CheckBest CheckCut`) those that are reached by these commands of `gasday_part` alone. With `--read` and the same words it prints
 what has to be read of these files, in the document's order: each definition that is reached, with the comments before it, and
 neither what the file imports nor what else it defines.
 
@@ -20,6 +20,9 @@ What counts as reached:
 - A type of the program (`specs.declared`, or a type of the signature) reaches what its fields are seen as: types in turn,
   or, where one has a `Model`, the definitions of its `Value` and its `view`. Of a trait of the program it is its ghosts.
 - With commands, the clauses for other commands and other forms of a text are left out, and nothing else is.
+
+With `make` it writes into the document what it counts: of each file that stands there its lines and, where it stays in its section,
+its paths; and the sums. What stands there by hand are files, types and modules by name.
 
 It also holds `docs/DEFINITIONS.md` against the files: each that a heading names behind its crate is there, and each name behind
 that of a file (`Schedule.IsAllowed`) is defined in a file of this name.
@@ -63,8 +66,19 @@ WORD = re.compile(r"[^\s(){};,]+")
 TYPE = re.compile(r"^(?:pub(?:\(crate\))? )?(?:struct|enum|trait|type) (\w+)", re.M)
 IMPORT = re.compile(r"^use ([\w:]+?)(?:::\{([^}]*)\}|::(\w+));", re.M)
 GHOSTS = ("Value", "view")
-COMMANDS = ("CheckAllowed", "CheckBest", "CheckCut", "Solve", "Calendar", "Day")
+VARIANT = re.compile(r"^    (\w+),$", re.M)
 CHOICE = re.compile(r"\b(?:command|form)\.(\w+)")
+
+
+def variants(place, name):
+    """The plain variants of an enum, in their order."""
+    return VARIANT.findall((CRATES / place).read_text().partition(f"\npub enum {name} {{\n")[2].partition("\n}")[0])
+
+
+def commands():
+    """The names of the commands that have a form of text of the same name: with these `--list` and `--read` may be called."""
+    forms = variants("gd_text_part/src/kind.rt", "Form")
+    return [name for name in variants("gasday_words/src/order.rt", "Command") if name in forms]
 
 
 def words_of(text):
@@ -336,6 +350,17 @@ def whole():
     return reach(dict.fromkeys(root for _, roots, _ in PATHS.values() for root in roots))
 
 
+def sums_of(reached):
+    """How many files are reached, how many lines they have, and how many of these have to be read."""
+    lines = lines_of(reached)
+    return len(lines), sum(lines.values()), read_lines(reached)
+
+
+def letters_of(name, by_path):
+    """The letters of the paths that reach a file."""
+    return "".join(letter for letter, its in by_path.items() if name in its)
+
+
 def lines_of(reached):
     """The files that are reached, with their lines."""
     return {str(path.relative_to(CRATES)): path.read_text().count("\n") for path in sorted(reached.files)}
@@ -360,7 +385,7 @@ def print_to_be_read(document, reached):
 def file_faults(document, all_lines, by_path):
     """What differs in the files, file by file."""
     for name, lines in all_lines.items():
-        letters = "".join(letter for letter, its in by_path.items() if name in its)
+        letters = letters_of(name, by_path)
         found, want = [row for row in document.files if row[0] == name], (name, lines, letters, letters[:1])
         yield f"{name}: {want[1:]}, but the document has {found or 'nothing'}" if found != [want] else None
     for name in sorted({row[0] for row in document.files} - set(all_lines)):
@@ -370,11 +395,11 @@ def file_faults(document, all_lines, by_path):
 def sum_faults(document, all_reached, reached_by_path):
     """What differs in the totals."""
     for name, reached in [*reached_by_path.items(), ("All", all_reached)]:
-        lines = lines_of(reached)
-        want = (len(lines), sum(lines.values()), read_lines(reached))
+        want = sums_of(reached)
         yield f"{name}: {want}, but the document has {document.totals.get(name)}" if document.totals.get(name) != want else None
         if name in PATHS:
-            yield f"{name}: {want}, but the document's table has {document.heads.get(name)}" if document.heads.get(name) != want else None
+            head = document.heads.get(name)
+            yield f"{name}: {want}, but the document's table has {head}" if head != want else None
 
 
 def name_faults(kind, stand, reached):
@@ -408,7 +433,44 @@ def listed(words):
         return whole()
     if len(words) == 1 and words[0] in named:
         return reach(*named[words[0]])
-    return reach((ANSWER, WRITE), words) if set(words) <= set(COMMANDS) else None
+    return reach((ANSWER, WRITE), words) if set(words) <= set(commands()) else None
+
+
+class Recount:
+    """The document with what is counted anew."""
+
+    def __init__(self, text, all_reached, reached_by_path):
+        self.text = text
+        self.lines, self.by_path = lines_of(all_reached), {letter: lines_of(its) for letter, its in reached_by_path.items()}
+        self.sums = {name: sums_of(its) for name, its in [*reached_by_path.items(), ("All", all_reached)]}
+
+    def made(self):
+        """The whole document."""
+        section, made = "", []
+        for line in self.text.split("\n"):
+            if match := Document.SECTION.match(line):
+                section = match[1]
+            made.append(self.line(line, section))
+        return "\n".join(made)
+
+    def line(self, line, section):
+        if match := Document.FILE.match(line):
+            name = f"{match[1]}/specs/{match[2]}"
+            letters = letters_of(name, self.by_path)
+            if name not in self.lines:
+                return line
+            kept = letters if letters.startswith(section) else match[4]
+            return line.replace(f"({match[3]}, {match[4]})", f"({self.lines[name]}, {kept})", 1)
+        if match := Document.ROW.match(line):
+            return line.removesuffix(line[match.start(2):]) + f"{self.sum(match[1])} |"
+        return Document.TOTAL.sub(self.total, line)
+
+    def total(self, match):
+        return match[0][:match.start(3) - match.start()] + self.sum(match[1] or match[2])
+
+    def sum(self, name):
+        files, lines, read = self.sums[name]
+        return f"{files} files, {lines:,} lines, {read:,} to be read"
 
 
 def main():
@@ -422,12 +484,20 @@ def main():
         print("".join(f"{count:5} crates/{name}\n" for name, count in lines.items()), end="")
         print(f"{sum(lines.values()):5} in {len(lines)} files")
         return 0
-    if len(sys.argv) != 1:
+    if sys.argv[1:] not in ([], ["make"]):
         print(__doc__.strip())
         return 2
     reached = whole()
-    all_lines = lines_of(reached)
     reached_by_path = {letter: reach(roots, commands) for letter, (_, roots, commands) in PATHS.items()}
+    if sys.argv[1:]:
+        DOCUMENT.write_text(Recount(DOCUMENT.read_text(), reached, reached_by_path).made())
+        return 0
+    return checked(document, reached, reached_by_path)
+
+
+def checked(document, reached, reached_by_path):
+    """Prints what differs, and how much doesn't; the exit status."""
+    all_lines = lines_of(reached)
     by_path = {letter: lines_of(its) for letter, its in reached_by_path.items()}
     results = [f"{name}: no such definition" for name in sorted(reached.missing)]
     results += file_faults(document, all_lines, by_path)
