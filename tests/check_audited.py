@@ -6,7 +6,8 @@ each file that is reached stands there exactly once, with the paths that reach i
 that stands there is reached; the counts of lines are right, and so are the types of the program and the modules of the kit
 that the definitions name. With `--list` it prints the files that all paths reach, with their lines; with the name of a path
 behind it (`Best`, `Headline`, `Checks`, `Days`, `Archives`, `Offices`, `Books`, `Rounds`) those of that path, and with commands
-(such as `CheckBest CheckCut`) those that are reached by these commands of `gasday_part` alone. With `--read` and the same words it prints
+(such as `CheckBest CheckCut`) those that are reached by these commands of `gasday_part` alone. With `--read` and the same words
+it prints
 what has to be read of these files, in the document's order: each definition that is reached, with the comments before it, and
 neither what the file imports nor what else it defines.
 

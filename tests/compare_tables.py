@@ -7,10 +7,10 @@ Holds what users are told of rows, faults, refusals, limits and commands against
 - the kinds of rows that the program reads, with their words and stages (`gd_text_part`: Kinds), are those of DEFINITIONS and of messages,
   and each kind of row that it prints (`gd_replies`: Lines) stands in DEFINITIONS and in a help;
 - the fields that messages know of each kind are as many as its form has (`crates/gd_messages/src/field.rt`);
-- the refusals of each call stand in the help and in DEFINITIONS in the order of the machine's tests (`Machine.tests_of`), and are
-  numbered in that order (`gd_replies`: Calls.refusal_number);
-- each refusal, each cause of a text's fault and each finding of a check that the program can print has a meaning in the help, and
-  each refusal one in the report;
+- the refusals of each call stand in the help in the order of the machine's tests (`Machine.tests_of`), and are numbered in that
+  order (`gd_replies`: Calls.refusal_number); what DEFINITIONS and the report have of them is made of the help
+  (tests/make_tables.py);
+- each refusal, each cause of a text's fault and each finding of a check that the program can print has a meaning in the help;
 - the calls of a book (`gd_replies`: Calls.call_name) and the rows that begin what they are told (the machine's replies) are those of the
   report, the desk, the importer and the trials of broken texts;
 - a limit that has two constants is the same in both, and messages and the help tell it;
@@ -32,7 +32,6 @@ sys.path.insert(0, str(TOP / "companion"))
 sys.dont_write_bytecode = True
 
 from gasday_import.forms import INTERRUPTIBLE, STAGES
-from gasday_report.day import REFUSALS
 
 from manual import HELP, helps_in
 
@@ -121,17 +120,6 @@ def helped_refusals(text: str) -> dict[str, list[str]]:
     for call, row in re.findall(r"^  ([a-z]+) +(1 .*(?:\n {12}.*)*)", part, re.M):
         # A text's certificate that doesn't pass is told in the place of one for another question.
         found[call] = re.findall(r"\d (?:Certificate or )?(\w+)", " ".join(row.split()))
-    return found
-
-
-def defined_refusals() -> dict[str, list[str]]:
-    """The refusals of each call in DEFINITIONS."""
-    text = next(line for line in text_of("docs/DEFINITIONS.md").split("\n") if line.startswith("The refusals, in order:"))
-    text = re.sub(r"\([^)]*\)", "", text).partition(", and then want of memory")
-    found = {}
-    for call, names in re.findall(r"of `(\w+)` ([^;.]*)", text[0] + ";" + text[2].partition(";")[2]):
-        listed = names.replace("those of the route", ", ".join(ROUTE))
-        found[call.removesuffix("_capacity")] = re.findall(r"\b[A-Z]\w+", listed)
     return found
 
 
@@ -288,16 +276,14 @@ def faults() -> Iterator[str | None]:
     for kind in sorted({form[0] for form in taken}):
         wanted = max(len(form) for form in taken if form[0] == kind)
         yield from differing(f"the fields of {kind} in DEFINITIONS and in messages", wanted, fields.get(kind, 2))
-    tested, told, said = tested_refusals(), helped_refusals(day), defined_refusals()
+    tested, told = tested_refusals(), helped_refusals(day)
     for call, names in tested.items():
         yield from differing(f"the refusals of {call} in the machine and in the help", names, told.get(call))
-        yield from differing(f"the refusals of {call} in the machine and in DEFINITIONS", names, said.get(call))
         word = next(event for event, row in CALLS.items() if row == call).replace("PostCapacity", "Post")
         numbers = [number_of(word, name) for name in names]
         yield from differing(f"the numbers of the refusals of {call}, {names}", numbers, [*range(1, len(names) + 1)])
     refusals = printed("crates/gd_machine/src/refusal.rt") | set(ROUTE)
     yield from differing("refusals without a meaning in the help", sorted(refusals - meanings(day)), [])
-    yield from differing("refusals without a meaning in the report", sorted(refusals - set(REFUSALS) - {"BoardTaken"}), [])
     causes = printed("crates/gd_text_part/src/fault.rt", "crates/gd_system/src/fault.rt", "crates/gd_question/src/fault.rt")
     yield from differing("causes without a meaning in the help", sorted(causes - meanings(program)), [])
     found = printed("crates/gd_schedule/src/fault.rt", "crates/gd_certificate/src/fault.rt")

@@ -1,6 +1,7 @@
 """A gas day's calls, and what each was told; and its cycles."""
 
 import os
+import re
 from collections.abc import Callable, Iterator, Sequence
 from dataclasses import dataclass
 from typing import NamedTuple
@@ -9,6 +10,7 @@ from .archives import Posting, postings_in, scratch_folder
 from .course import ENDS, Course, Taken
 from .moments import Clock
 from .program import Program
+from .refusals import REFUSALS
 from .rounds import CycleFacts, Rounds
 from .texts import Fault, Input, Row, number_of, of_kinds, rows_in, written
 from .verdicts import Verdict
@@ -21,35 +23,11 @@ DETAILS = ("bound", "total", "sched", "bumped", "inside")
 FIELDS = {"nominate": 8, "respond": 6, "post": 4, "publish": 3, "declare": 3, "waive": 3,
           "accepted": 4, "done": 2, "frozen": 5, "published": 4, "declared": 4, "refused": 4}
 
+# What a refusal says with its detail, which is taken out where there is none.
+DETAIL = re.compile(r"(?:, which is)? \(?\{\}\)?")
+
 # The six times of a cycle, in the order of its row.
 TIMES = ("nominations leave", "received", "quick response", "confirmed", "schedules out", "in effect")
-
-REFUSALS = {
-    "DayClosed": "it comes too late for every cycle of the gas day",
-    "UnknownContract": "the contract is not known",
-    "NotShipper": "the party is not the contract's shipper",
-    "UnknownEnd": "an end of the line is no point and no pool",
-    "WrongEnd": "the line would start at a delivery point or end at a receipt point",
-    "SameEnd": "both ends of the line are the same",
-    "NoRoute": "the route would pass a segment against its direction",
-    "OverContract": "the contract's lines would be nominated more than its quantity",
-    "TooManyLines": "the book has no room for another line",
-    "TooManyEvents": "the book has no room for another event",
-    "AllSettled": "all five cycles are settled",
-    "Frozen": "the book is frozen until its schedule is published or a cut declared",
-    "UnknownLine": "there is no such line",
-    "NotOperator": "the party does not operate that end of the line",
-    "UnknownElement": "there is no such element",
-    "IsPool": "a pool has no capacity",
-    "TooEarly": "the cycle's confirmation time has not come",
-    "NotFrozen": "the book is not frozen",
-    "StaleRound": "it answers another round; the current one is {}",
-    "OtherQuestion": "it answers another question",
-    "NoCutProof": "the set does not show that there is no schedule ({})",
-    "NoCut": "no cut was declared in this cycle",
-    "Certificate": "the schedule and prices do not pass the check ({})",
-}
-
 
 Amount = Callable[[str], str]
 
@@ -112,7 +90,7 @@ def asked_words(row: Row, amount: Amount = str) -> str:
 def refusal_words(row: Row) -> str:
     detail = " at ".join(field for field in row[4:6] if field)
     words = REFUSALS.get(row[3], "the rule of this name")
-    return f"refused, {row[3]}: {words.format(detail) if detail else words.replace(' ({})', '')}"
+    return f"refused, {row[3]}: {words.format(detail) if detail else DETAIL.sub('', words)}"
 
 
 def told_words(row: Row, rest: Sequence[Row], amount: Amount = str) -> str:

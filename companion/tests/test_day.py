@@ -7,7 +7,9 @@ import zoneinfo
 
 from helpers import VERSION, ReportTest, example
 
+from gasday_report.day import refusal_words
 from gasday_report.moments import Clock
+from gasday_report.refusals import REFUSALS
 
 HAS_ZONES = "America/Chicago" in zoneinfo.available_timezones()
 EVENTS = example("gas-day/two-cycles.csv")
@@ -95,10 +97,17 @@ class Days(ReportTest):
         told = "refused,freeze,3,TooEarly,,,,\nrefused,publish,1,NotFrozen,,,,\nrefused,declare,2,StaleRound,1,,,\n"
         out, _, status = self.day(events=head + calls, replies=told, told=told)
         self.assertEqual(status, 0)
-        for words in ("REFUSED  the cycle is to be frozen: refused, TooEarly: the cycle's confirmation time has not come\n",
-                      "refused, NotFrozen: the book is not frozen\n",
-                      "refused, StaleRound: it answers another round; the current one is 1\n"):
+        for words in ("REFUSED  the cycle is to be frozen: refused, TooEarly: the moment lies before the cycle's confirmation time,"
+                      " which calendar tells\n",
+                      "refused, NotFrozen: the cycle isn't frozen\n",
+                      "refused, StaleRound: the round isn't the current one, which is 1\n"):
             self.assertIn(words, out)
+
+    def test_refusals_with_and_without_a_detail(self) -> None:
+        for name, words in REFUSALS.items():
+            bare, told = (refusal_words(["refused", "publish", "3", name, detail, "", "", ""]) for detail in ("", "Shape"))
+            self.assertTrue(bare.startswith(f"refused, {name}: ") and "{" not in bare + told, (bare, told))
+            self.assertEqual("Shape" in told, "{}" in words, told)
 
     def test_faults(self) -> None:
         no_calendar = "refused,calendar,2,BadZone,,,,\n"

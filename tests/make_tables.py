@@ -1,0 +1,79 @@
+#!/usr/bin/env python3
+"""make_tables.py make | check
+
+What stands in documents and in the companion of the program's help (crates/gasday_words/src/help.rt) is made of that:
+
+- companion/gasday_report/refusals.py: what each refusal of a call says, without its remedy;
+- the table of refusals in docs/DEFINITIONS.md.
+
+A table stands between two comments that name it. `make` writes files and tables. `check` compares them with what `make` would
+write, and prints what differs; the last line is 'N passed, M failed', where N counts what is as it would be made, and the exit
+status is 0 only where all is.
+"""
+
+import difflib
+import re
+import sys
+from pathlib import Path
+
+sys.dont_write_bytecode = True
+
+from help_tables import refusals_module, refusals_table
+from manual import TOP, Fault
+
+SCRIPT = Path(__file__).name
+
+
+def between(path: Path, name: str, text: str) -> str:
+    """A document with this table between its two comments."""
+    first, last = f"<!-- {name}: tests/{SCRIPT} makes this table -->", f"<!-- end of {name} -->"
+    whole = path.read_text(encoding="utf-8")
+    if whole.count(first) != 1 or whole.count(last) != 1:
+        raise Fault(f"{path.relative_to(TOP)} has not once the lines {first} and {last}")
+    return re.sub(rf"{re.escape(first)}\n.*?{re.escape(last)}", lambda _: f"{first}\n\n{text}\n\n{last}", whole, flags=re.S)
+
+
+def made() -> dict[Path, str]:
+    """Each file as it is made."""
+    definitions = TOP / "docs" / "DEFINITIONS.md"
+    return {
+        TOP / "companion" / "gasday_report" / "refusals.py": refusals_module(SCRIPT),
+        definitions: between(definitions, "refusals", refusals_table()),
+    }
+
+
+def difference(path: Path, text: str) -> str:
+    """What differs between a file and how it would be made, or nothing."""
+    here = path.read_text(encoding="utf-8") if path.exists() else ""
+    name = str(path.relative_to(TOP))
+    lines = difflib.unified_diff(here.splitlines(), text.splitlines(), name, "as it would be made", n=1, lineterm="")
+    return "" if here == text else "\n".join([f"FAIL {name}", *lines])
+
+
+def check(files: dict[Path, str]) -> bool:
+    """Whether all is as it would be made; prints what differs."""
+    results = [difference(path, text) for path, text in files.items()]
+    failed = [it for it in results if it]
+    print("".join(f"{it}\n" for it in failed), end="")
+    print(f"{len(results) - len(failed)} passed, {len(failed)} failed")
+    return not failed
+
+
+def main() -> int:
+    if sys.argv[1:] not in (["make"], ["check"]):
+        print((__doc__ or "").strip())
+        return 2
+    try:
+        files = made()
+    except Fault as fault:
+        print(f"FAIL {fault}\n0 passed, 1 failed")
+        return 1
+    if sys.argv[1] == "check":
+        return 0 if check(files) else 1
+    for path, text in files.items():
+        path.write_text(text, encoding="utf-8")
+    return 0
+
+
+if __name__ == "__main__":
+    sys.exit(main())
