@@ -1,4 +1,5 @@
 # Completions of gasday for bash: source this file, or put it into share/bash-completion/completions as `gasday`.
+# Made by tests/make_tables.py of the program's command line: change that, and not this file.
 
 # Offers those of the words that the word at the cursor begins.
 _gasday_words() {
@@ -31,31 +32,54 @@ _gasday() {
             _gasday_words 'allowed best cut --help'
             _gasday_files
             ;;
+        check:*)
+            _gasday_words '--help'
+            _gasday_files
+            ;;
+        solve:*)
+            _gasday_words '--help'
+            _gasday_files
+            ;;
+        calendar:*)
+            _gasday_words '--help'
+            _gasday_files
+            ;;
         day:*)
             [ "$before" = --wait ] && return
             [[ $before = --archive || $before = --book ]] || _gasday_words '--archive --book --strict --wait --help'
             _gasday_files
             ;;
-        question:3) _gasday_words '1 2 3 4 5 --help' ;;
+        office:*)
+            _gasday_words '--strict --help'
+            _gasday_files
+            ;;
         audit:*)
             [ "$before" = --wait ] && return
             _gasday_words '--all --wait --help'
             _gasday_files
             ;;
-        text:2 | question:2 | carry:2 | migrate:2)
+        text:2)
             _gasday_words '--wait --help'
             _gasday_files
             ;;
-        text:4 | question:4 | carry:4 | migrate:4) [ "${COMP_WORDS[2]}" = --wait ] && _gasday_files ;;
+        text:4) [ "${COMP_WORDS[2]}" = --wait ] && _gasday_files ;;
+        question:2)
+            _gasday_words '--wait --help'
+            _gasday_files
+            ;;
+        question:3) _gasday_words '1 2 3 4 5 --help' ;;
+        question:4) [ "${COMP_WORDS[2]}" = --wait ] && _gasday_files ;;
         question:5) [ "${COMP_WORDS[2]}" = --wait ] && _gasday_words '1 2 3 4 5' ;;
-        office:*)
-            _gasday_words '--strict --help'
+        carry:2)
+            _gasday_words '--wait --help'
             _gasday_files
             ;;
-        check:* | solve:* | calendar:*)
-            _gasday_words '--help'
+        carry:4) [ "${COMP_WORDS[2]}" = --wait ] && _gasday_files ;;
+        migrate:2)
+            _gasday_words '--wait --help'
             _gasday_files
             ;;
+        migrate:4) [ "${COMP_WORDS[2]}" = --wait ] && _gasday_files ;;
     esac
 }
 

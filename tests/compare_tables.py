@@ -14,8 +14,8 @@ Holds what users are told of rows, faults, refusals, limits and commands against
 - the calls of a book (`gd_replies`: Calls.call_name) and the rows that begin what they are told (the machine's replies) are those of the
   report, the desk, the importer and the trials of broken texts;
 - a limit that has two constants is the same in both, and messages and the help tell it;
-- each command of the program, with its options, stands in the completions, the manual's synopsis, README, GUIDE and the trials of
-  refused allocations.
+- each command of the program stands in GUIDE. The completions, the manual's synopsis and README's table are made of its command
+  line (tests/make_tables.py, tests/manual.py), and tests/refuse_memory.py tells of a command that it doesn't try.
 
 What differs is printed. The last line is 'N passed, M failed', and the exit status is 0 only where none failed.
 """
@@ -27,12 +27,12 @@ from collections.abc import Iterator
 from itertools import groupby
 from pathlib import Path
 
-TOP = Path(__file__).resolve().parent.parent
-sys.path.insert(0, str(TOP / "companion"))
+sys.path.insert(0, str(Path(__file__).resolve().parent.parent / "companion"))
 sys.dont_write_bytecode = True
 
 from gasday_import.forms import INTERRUPTIBLE, STAGES
 
+from command_line import TOP, commands
 from manual import HELP, helps_in
 
 CRATES = TOP / "crates"
@@ -203,40 +203,10 @@ def calls_and_heads() -> Iterator[str | None]:
         yield from differing(f"what begins an answer to a call and {name} of {path}", sorted([*heads, *others]), assigned(path, name))
 
 
-def commands() -> dict[str, list[str]]:
-    """The commands of the program, each with its options."""
-    functions = re.split(r"^(?:pub\(crate\) )?fn (\w+)", text_of("crates/gasday_words/src/line.rt"), flags=re.M)
-    bodies = dict(zip(functions[1::2], functions[2::2], strict=True))
-    given = r'(?:option|flag)\(\s*alloc,\s*"(\w+)"'
-    options = {name: option[1] for name, body in bodies.items() if "command(" not in body and (option := re.search(given, body))}
-    found = {}
-    for name, body in bodies.items():
-        command = re.search(r'command\(\s*alloc,\s*"(\w+)"', body)
-        if command:
-            # (where another function goes on with what this one has given)
-            whole = body + "".join(other for other in bodies.values() if f" {name}(alloc)?." in other)
-            arguments = re.findall(rf"\.arg\((?:{given}|(\w+)\()", whole)
-            found[command[1]] = [it for own, maker in arguments if (it := own or options.get(maker, ""))]
-    return found
-
-
 def told_commands() -> Iterator[str | None]:
-    """Where the commands and their options have to stand."""
-    places = {
-        "completions/gasday.bash": (r"'(?:\w+ )*{0} (?:\w+ )*help --help --version'", r"'(?:--\w+ )*--{1} (?:--\w+ )*--help'"),
-        "completions/_gasday": (r"^        '{0}:", r"--{1}\["),
-        "completions/gasday.fish": (r" -a {0} -d", r"_from (?:\w+ )*{0}(?: \w+)*' -l {1} "),
-        "man/gasday.1.in": (r"^\\fBgasday {0}\b", r"\\-\\-{1}\b"),
-        "README.md": (r"^\|[^|]*`{0}\b", None),
-        "docs/GUIDE.md": (r"(?:gasday |`){0}\b", None),
-        "tests/refuse_memory.py": (r'"{0}[ "]', None),
-    }
-    for path, (form, option_form) in places.items():
-        text = text_of(path)
-        for command, options in commands().items():
-            yield None if re.search(form.format(command), text, re.M) else f"{path} has no command {command}"
-            for option in options if option_form else []:
-                yield None if re.search(option_form.format(command, option), text, re.M) else f"{path} has no --{option} of {command}"
+    for command in commands():
+        told = re.search(rf"(?:gasday |`){command.name}\b", text_of("docs/GUIDE.md"))
+        yield None if told else f"docs/GUIDE.md has no command {command.name}"
 
 
 def printed(*places: str) -> set[str]:

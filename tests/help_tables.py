@@ -1,13 +1,15 @@
-"""What documents and the companion have of the program's help: the refusals of calls, with what they mean."""
+"""What documents and the companion have of the program's help: the refusals of calls with what they mean, and the commands."""
 
 import re
 from collections.abc import Iterator
 
-from manual import HELP, SENTENCE, Fault, helps_in, parts_of
+from command_line import Fault, commands, forms
+from manual import HELP, SENTENCE, helps_in, parts_of
 
 WIDTH = 130  # of a line in the companion
 CALLS = "by their number N"
 NAME = re.compile(r"[A-Z][a-z]\w+$")
+OPTION = re.compile(r"(?<=; )(--[a-z]+(?: [A-Z]+)?)(?=:)")
 # How a help says that a row's fields tell more of a refusal, and what stands for these in the report.
 DETAILS = ((re.compile(r", which DETAIL tells$"), ", which is {}"), (re.compile(r"; DETAIL .*$"), " ({})"))
 
@@ -43,7 +45,7 @@ def said(text: str) -> str:
     """What a meaning says before its remedy, as it goes on behind a colon; `{}` stands for the fields of the row."""
     words = SENTENCE.split(text)[0].removesuffix(".")
     for pattern, place in DETAILS:
-        words = pattern.sub(lambda _, place=place: place, words)
+        words = pattern.sub(place, words)
     if "DETAIL" in words:
         raise Fault(f"the help says of DETAIL in words that nothing is made of: {words}")
     return words[0].lower() + words[1:]
@@ -71,3 +73,15 @@ def refusals_table() -> str:
     """The refusals of each call, as a table of a document."""
     rows = [f"| `{call}` | {text} |" for call, text in refusals_of_calls().items()]
     return "\n".join(["| Call | Its refusals, each with the number N of its row |", "|---|---|", *rows])
+
+
+def commands_table() -> str:
+    """The ways to call each command, with what it does so."""
+    ways = [way for command in commands() for way in forms(command)]
+    rows = [f"| `{way.words.replace('...', '..')}` | {marked(way.about)} |" for way in ways]
+    return "\n".join(["| Command | What it does |", "|---|---|", *rows])
+
+
+def marked(about: str) -> str:
+    """What a command does, its options marked as such."""
+    return OPTION.sub(r"`\1`", about[0].lower() + about[1:])

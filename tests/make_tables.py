@@ -1,10 +1,13 @@
 #!/usr/bin/env python3
 """make_tables.py make | check
 
-What stands in documents and in the companion of the program's help (crates/gasday_words/src/help.rt) is made of that:
+What stands in documents, in the companion and in the completions of the program's help (crates/gasday_words/src/help.rt) and of its
+command line (line.rt and order.rt beside that) is made of these:
 
 - companion/gasday_report/refusals.py: what each refusal of a call says, without its remedy;
-- the table of refusals in docs/DEFINITIONS.md.
+- the table of refusals in docs/DEFINITIONS.md;
+- completions/gasday.bash, _gasday and gasday.fish;
+- the table of commands in README.md.
 
 A table stands between two comments that name it. `make` writes files and tables. `check` compares them with what `make` would
 write, and prints what differs; the last line is 'N passed, M failed', where N counts what is as it would be made, and the exit
@@ -18,8 +21,9 @@ from pathlib import Path
 
 sys.dont_write_bytecode = True
 
-from help_tables import refusals_module, refusals_table
-from manual import TOP, Fault
+from command_line import TOP, Fault
+from gasday_completions import in_bash, in_fish, in_zsh
+from help_tables import commands_table, made_of, refusals_module, refusals_table
 
 SCRIPT = Path(__file__).name
 
@@ -35,8 +39,13 @@ def between(path: Path, name: str, text: str) -> str:
 
 def made() -> dict[Path, str]:
     """Each file as it is made."""
-    definitions = TOP / "docs" / "DEFINITIONS.md"
+    definitions, readme, completions = TOP / "docs" / "DEFINITIONS.md", TOP / "README.md", TOP / "completions"
+    line = made_of(SCRIPT, "the program's command line")
     return {
+        completions / "gasday.bash": in_bash(line),
+        completions / "_gasday": in_zsh(line),
+        completions / "gasday.fish": in_fish(line),
+        readme: between(readme, "commands", commands_table()),
         TOP / "companion" / "gasday_report" / "refusals.py": refusals_module(SCRIPT),
         definitions: between(definitions, "refusals", refusals_table()),
     }

@@ -1,10 +1,10 @@
 #!/usr/bin/env python3
 r"""manual.py make | check
 
-The manual, man/gasday.1, is made from man/gasday.1.in, which has what only the manual says, and from the long texts of the
-program's help (crates/gasday_words/src/help.rt). `make` writes it. `check` compares it, section by section, with what `make`
-would write, and prints what differs; the last line is 'N passed, M failed', where N counts the sections that are as they
-would be made, and the exit status is 0 only where all are.
+The manual, man/gasday.1, is made from man/gasday.1.in, which has what only the manual says, from the long texts of the program's
+help (crates/gasday_words/src/help.rt), and from its command line (tests/command_line.py). `make` writes it. `check` compares it,
+section by section, with what `make` would write, and prints what differs; the last line is 'N passed, M failed', where N counts
+the sections that are as they would be made, and the exit status is 0 only where all are.
 
 In man/gasday.1.in these comment lines are places, where something of a help stands in the manual. They name a command, or
 `program` for the help of the program itself, and then the words at the beginning, or `FIRST .. LAST` at both ends:
@@ -13,6 +13,9 @@ In man/gasday.1.in these comment lines are places, where something of a help sta
     .\" ROW day: accepted                     the form of a row that begins so, as a heading
     .\" WORDS audit: Take the file .. copy    these words, as a sentence
     .\" REFUSED                               refusals by their numbers, call by call, where the helps have them as rows
+    .\" SYNOPSIS                              each way to call a command, as the command line has them (tests/command_line.py)
+    .\" COMMANDS                              of each command that the source has no heading for: what it does
+    .\" OTHERS                                and its whole help
 
 These are notes on how words of the help look, each of which has to fit somewhere:
 
@@ -28,10 +31,12 @@ import re
 import sys
 from collections.abc import Iterator
 from dataclasses import dataclass, field
-from pathlib import Path
 from typing import Literal
 
-TOP = Path(__file__).resolve().parent.parent
+sys.dont_write_bytecode = True
+
+from command_line import TOP, Command, Fault, commands, forms, unescaped
+
 HELP = TOP / "crates" / "gasday_words" / "src" / "help.rt"
 SOURCE = TOP / "man" / "gasday.1.in"
 PAGE = TOP / "man" / "gasday.1"
@@ -39,23 +44,19 @@ PAGE = TOP / "man" / "gasday.1"
 MADE = r'.\" Made by tests/manual.py from gasday.1.in and the help of the program: change these, and not this file.'
 
 CONSTANT = re.compile(r'const LONG(?:_OF_(\w+))?: &str =\s*"((?:[^"\\]|\\.)*)";', re.S)
-ESCAPE = re.compile(r"\\(?:\n\s*|.)")
-ESCAPES = {'\\"': '"', "\\'": "'", "\\\\": "\\", "\\n": "\n"}
 # An item's row or name, and the text that may stand behind it after two spaces or more.
 ITEM = re.compile(r"  (\S.*?)(?: {2,}(.*))?$")
 PLACE = re.compile(r'\.\\" (?P<verb>[A-Z]{2,})(?: (?P<help>\w+))?(?:: (?P<first>.+?)(?: \.\. (?P<last>.+))?)?$')
-PLACES = ("HELP", "ROW", "WORDS", "REFUSED")
+PLACES = ("HELP", "ROW", "WORDS", "REFUSED", "SYNOPSIS", "COMMANDS", "OTHERS")
 NOTES = ("BOLD", "PARAGRAPH")
 FORM = re.compile(r"\b[a-z]+(?:,[A-Z]+)+\b")
 REFUSED = re.compile(r"\brefused,([a-z]+),(\d+),([A-Z]\w+)")
 SENTENCE = re.compile(r"(?<=\.) (?=[A-Z])")
 EXAMPLE = "Example: "
+# What is written as it stands on a command line, word by word, and what is filled in.
+CALLED = re.compile(r"((?:--)?[a-z][a-z-]*(?: (?:--)?[a-z][a-z-]*)*)|([A-Z]+)")
 # How commands begin that stand in a help as examples.
 COMMANDS = ("gasday ", "TZ=")
-
-
-class Fault(Exception):
-    """The manual can't be made of its source and this help."""
 
 
 @dataclass(frozen=True)
@@ -75,19 +76,6 @@ class Part:
 
 
 # The helps.
-
-
-def unescaped(literal: str) -> str:
-    """What a string literal of the source stands for."""
-
-    def meant(match: re.Match[str]) -> str:
-        if match[0][1] == "\n":
-            return ""
-        if match[0] not in ESCAPES:
-            raise Fault(f"{HELP.name}: the escape {match[0]} is unknown")
-        return ESCAPES[match[0]]
-
-    return ESCAPE.sub(meant, literal)
 
 
 def helps_in(source: str) -> dict[str, str]:
@@ -151,6 +139,11 @@ def form(row: str) -> str:
     return "".join(rf"\fI{it}\fR" if k % 2 else bold(literal(it)) for k, it in enumerate(pieces) if it)
 
 
+def called(words: str) -> str:
+    """A way to call a command: what is filled in is italic, and what is written so bold."""
+    return CALLED.sub(lambda it: bold(literal(it[1])) if it[1] else rf"\fI{it[2]}\fR", words)
+
+
 def quoted(words: str) -> str:
     """Words as one argument of a macro."""
     return f'"{words}"' if " " in words else words
@@ -209,8 +202,8 @@ def kinds_in(helps: dict[str, str]) -> str:
 class Manual:
     """The manual as it is made, line by line, and what of the helps stands in it."""
 
-    def __init__(self, helps: dict[str, str], notes: Notes) -> None:
-        self.helps, self.notes = helps, notes
+    def __init__(self, helps: dict[str, str], notes: Notes, others: list[Command]) -> None:
+        self.helps, self.notes, self.others = helps, notes, others
         self.made: list[str] = [MADE]
         self.taken: set[str] = set()
 
@@ -271,6 +264,20 @@ class Manual:
         for call, refusals in calls.items():
             self.made += [f".IP {bold(call)}", ", ".join(refusals)]
 
+    def described(self) -> None:
+        """What each command does that the source has no heading for."""
+        for command in self.others:
+            for way in forms(command):
+                self.made += [f".IP {quoted(called(way.words.removesuffix(' [TEXT]...')))}", *self.notes.lines(f"{way.about}.")]
+
+    def whole_helps(self) -> None:
+        """The helps of these commands, without the examples at their end."""
+        for command in self.others:
+            self.made.append(f".SS {command.name.capitalize()}")
+            text = re.split(r"\n{2,}Examples?:\n", self.text_of(command.name))[0]
+            for part in parts_of(text):
+                self.part(part)
+
     def place(self, place: re.Match[str]) -> None:
         """What stands at a place."""
         name, first = place["help"] or "", place["first"] or ""
@@ -281,6 +288,12 @@ class Manual:
                 self.row(name, first)
             case "WORDS":
                 self.words(name, first, place["last"] or first)
+            case "SYNOPSIS":
+                self.made += [called(f"gasday {way.words}") for command in commands() for way in forms(command)]
+            case "COMMANDS":
+                self.described()
+            case "OTHERS":
+                self.whole_helps()
             case _:
                 self.refused()
 
@@ -311,7 +324,8 @@ def made_of(source: str, help_source: str) -> str:
     helps, lines = helps_in(help_source), list(lines_of(source))
     noted = [(it["verb"], it["first"]) for it in lines if not isinstance(it, str) and it["verb"] in NOTES]
     bolds, paragraphs = ([words for verb, words in noted if verb == kind] for kind in NOTES)
-    manual = Manual(helps, Notes(kinds_in(helps), bolds, paragraphs))
+    others = [it for it in commands() if not re.search(rf'^\.IP "?\\fB{it.name}\b', source, re.M)]
+    manual = Manual(helps, Notes(kinds_in(helps), bolds, paragraphs), others)
     for line in lines:
         if isinstance(line, str):
             manual.made.append(line)

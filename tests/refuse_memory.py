@@ -3,6 +3,8 @@
 
 Refuses each allocation of PROGRAM, the built `gasday`, in turn, over a text for each command: it has to print its whole
 answer, or rows at the front of it and perhaps `fault,0,OutOfMemory` (or, for an office, `fault,0,NoThread`), with status 2.
+A command that takes a text and has none here is tried over that of its first acceptance case that is run by its name alone
+with status 0; a command that isn't tried at all is told, and counts as failed.
 Of the commands on a book's file, whose allocations are thousands, it is each seventh of a live day, and each 23rd of the others.
 
 TRIAL is the built `gd_book_trials`, which makes each call of a book once more where it found no memory. Whichever
@@ -29,6 +31,9 @@ import tempfile
 from concurrent.futures import ThreadPoolExecutor
 from pathlib import Path
 
+from command_line import commands
+
+CASES = Path(__file__).resolve().with_name("cases")
 # The library that refuses.
 REFUSING = Path(__file__).resolve().with_name("refuse_memory.c")
 
@@ -146,6 +151,23 @@ TEXTS = {
     "office": OFFICE,
     "office --strict": OFFICE,
 }
+
+
+def text_of_case(command):
+    """The standard input of the first of a command's acceptance cases that is run by its name alone with status 0, or nothing."""
+    begin, good = f"-- args --\n{command}\n-- stdin --\n", "\n-- status --\n0\n"
+    for case in sorted((CASES / command).glob("*.case")):
+        _, _, behind = case.read_text(errors="replace").partition(begin)
+        if good in behind:
+            return behind.partition("\n-- ")[0] + "\n"
+    return None
+
+
+def texts():
+    """A text for each way to call a command that takes one."""
+    named = {words.split()[0] for words in TEXTS}
+    others = {it.name: text_of_case(it.name) for it in commands() if it.takes_texts() and it.name not in named}
+    return {**TEXTS, **{name: text for name, text in others.items() if text is not None}}
 
 
 class Trial:
@@ -434,13 +456,17 @@ def main():
         folder = Path(name)
         library = folder / "refusing.so"
         subprocess.run(["cc", "-shared", "-fPIC", "-O1", REFUSING, "-o", library, "-ldl"], check=True)
-        trials = [(words, Trial(library, folder, [program, *words.split()], text), is_front) for words, text in TEXTS.items()]
+        trials = [(words, Trial(library, folder, [program, *words.split()], text), is_front) for words, text in texts().items()]
         trials.append(("a broken text in two files", named_trial(program, library, folder), is_front))
         trials.append(("an answer to a question", answer_trial(program, library, folder), is_front))
         trials.append(("a book's day", Trial(library, folder, [trial, "day"], ""), goes_on))
         trials.append(("an office's calls", Trial(library, folder, [office_trial, "office"], ""), office_goes_on))
         trials.extend(archive_trials(program, library, folder))
         trials.extend(book_trials(program, library, folder))
+        tried = {trial.words[1] for _, trial, _ in trials if trial.words[0] == program}
+        untried = [it.name for it in commands() if it.name not in tried]
+        print("".join(f"FAIL no allocation of the command {name} is refused\n" for name in untried), end="")
+        failed += len(untried)
         for name, trial, is_right in trials:
             wrong, count = trial.faults(is_right)
             print(f"{name}: {count} allocations refused in turn", flush=True)

@@ -97,8 +97,8 @@ class Days(ReportTest):
         told = "refused,freeze,3,TooEarly,,,,\nrefused,publish,1,NotFrozen,,,,\nrefused,declare,2,StaleRound,1,,,\n"
         out, _, status = self.day(events=head + calls, replies=told, told=told)
         self.assertEqual(status, 0)
-        for words in ("REFUSED  the cycle is to be frozen: refused, TooEarly: the moment lies before the cycle's confirmation time,"
-                      " which calendar tells\n",
+        for words in ("REFUSED  the cycle is to be frozen: refused, TooEarly: the moment lies before the cycle's confirmation "
+                      "time, which calendar tells\n",
                       "refused, NotFrozen: the cycle isn't frozen\n",
                       "refused, StaleRound: the round isn't the current one, which is 1\n"):
             self.assertIn(words, out)
