@@ -14,7 +14,7 @@ Holds what users are told of rows, faults, refusals, limits and commands against
 - the calls of a book (`gd_replies`: Calls.call_name) and the rows that begin what they are told (the machine's replies) are those of the
   report, the desk, the importer and the trials of broken texts;
 - a limit that has two constants is the same in both, and messages and the help tell it;
-- each command of the program stands in GUIDE. The completions, the manual's synopsis and README's table are made of its command
+- each command of the program stands in GUIDE, and each option in what the manual says of commands. The completions, the manual's synopsis and README's table are made of its command
   line (tests/make_tables.py, tests/manual.py), and tests/refuse_memory.py tells of a command that it doesn't try.
 
 What differs is printed. The last line is 'N passed, M failed', and the exit status is 0 only where none failed.
@@ -204,9 +204,14 @@ def calls_and_heads() -> Iterator[str | None]:
 
 
 def told_commands() -> Iterator[str | None]:
+    guide, manual = text_of("docs/GUIDE.md"), text_of("man/gasday.1.in")
     for command in commands():
-        told = re.search(rf"(?:gasday |`){command.name}\b", text_of("docs/GUIDE.md"))
+        told = re.search(rf"(?:gasday |`){command.name}\b", guide)
         yield None if told else f"docs/GUIDE.md has no command {command.name}"
+        # (a command without a heading there is told whole, as tests/manual.py makes it)
+        for option in command.options() if f"\\fB{command.name}" in manual else []:
+            told = re.search(rf"\\-\\-{option.name}\b", manual)
+            yield None if told else f"man/gasday.1.in has no --{option.name} of {command.name}"
 
 
 def printed(*places: str) -> set[str]:
