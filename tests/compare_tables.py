@@ -3,19 +3,18 @@
 
 Holds what users are told of rows, faults, refusals, limits and commands against the program's own tables:
 
-- the forms of rows in `docs/DEFINITIONS.md` are those in the program's help, and the importer's kinds, stages and fields;
-- the kinds of rows that the program reads, with their words and stages (`gd_text_part`: Kinds), are those of DEFINITIONS and of messages,
-  and each kind of row that it prints (`gd_replies`: Lines) stands in DEFINITIONS and in a help;
-- the fields that messages know of each kind are as many as its form has (`crates/gd_messages/src/field.rt`);
+- the kinds of rows that the program reads, with their words and stages (`gd_text_part`: Kinds), are those of the help and of
+  messages, and each kind of row that it prints (`gd_replies`: Lines) stands in DEFINITIONS and in a help;
+- the fields that messages know of each kind are as many as its form in the help has (`crates/gd_messages/src/field.rt`);
 - the refusals of each call stand in the help in the order of the machine's tests (`Machine.tests_of`), and are numbered in that
-  order (`gd_replies`: Calls.refusal_number); what DEFINITIONS and the report have of them is made of the help
-  (tests/make_tables.py);
+  order (`gd_replies`: Calls.refusal_number);
 - each refusal, each cause of a text's fault and each finding of a check that the program can print has a meaning in the help;
-- the calls of a book (`gd_replies`: Calls.call_name) and the rows that begin what they are told (the machine's replies) are those of the
-  report, the desk, the importer and the trials of broken texts;
+- the calls of a book (`gd_replies`: Calls.call_name) and the rows that begin what they are told (the machine's replies) are those
+  of the report, the desk, the importer and the trials of broken texts;
 - a limit that has two constants is the same in both, and messages and the help tell it;
-- each command of the program stands in GUIDE, and each option in what the manual says of commands. The completions, the manual's synopsis and README's table are made of its command
-  line (tests/make_tables.py, tests/manual.py), and tests/refuse_memory.py tells of a command that it doesn't try.
+- each command of the program stands in GUIDE, and each of its options in what the manual says by itself of commands.
+
+What is made of the help and of the command line isn't compared here: tests/make_tables.py and tests/manual.py check it.
 
 What differs is printed. The last line is 'N passed, M failed', and the exit status is 0 only where none failed.
 """
@@ -25,15 +24,12 @@ import re
 import sys
 from collections.abc import Iterator
 from itertools import groupby
-from pathlib import Path
 
-sys.path.insert(0, str(Path(__file__).resolve().parent.parent / "companion"))
 sys.dont_write_bytecode = True
-
-from gasday_import.forms import INTERRUPTIBLE, STAGES
 
 from command_line import TOP, commands
 from manual import HELP, helps_in
+from row_tables import row_forms, stage_of, stages
 
 CRATES = TOP / "crates"
 ROUTE = ("UnknownEnd", "WrongEnd", "SameEnd", "NoRoute")
@@ -42,51 +38,16 @@ CALLS = {"Nominate": "nominate", "Respond": "respond", "PostCapacity": "post", "
          "Declare": "declare", "Waive": "waive", "Skip": "skip"}
 # Names that no row of a text or a call has, since what they tell is printed by a row of its own.
 NEVER_PRINTED = {"OutOfMemory"}
-Form = tuple[str, ...]
 
 
 def text_of(path: str) -> str:
     return (TOP / path).read_text(encoding="utf-8")
 
 
-def defined_forms() -> dict[Form, int]:
-    """The forms of rows in DEFINITIONS, each with its stage."""
-    found = {}
-    for stage, cell in re.findall(r"^\| (\d) \| (.*?) \| ", text_of("docs/DEFINITIONS.md"), re.M):
-        for form in re.findall(r"`([a-z]+(?:,[A-Za-z]+)+)`", cell):
-            found[tuple(form.split(","))] = int(stage)
-    return found
-
-
-def helped_forms(text: str) -> set[Form]:
-    """The forms of rows in the long help, up to what it says of faults."""
-    rows = text.partition("\nFaults:")[0]
-    return {tuple(form.split(",")) for form in re.findall(r"^  ([a-z]+(?:,[A-Za-z]+)+)$", rows, re.M)}
-
-
-def read_kinds() -> dict[str, int]:
-    """The words of all kinds of rows that are read, each with its stage."""
-    text = text_of("crates/gd_text_part/specs/Kinds.antt")
-    words = {kind: word for word, kind in re.findall(r'is_text text \(codes "(\w+)"\) then Some kind\.(\w+)', text)}
-    stages = dict(re.findall(r"^stage_of kind\.(\w+) = (\d)$", text, re.M))
-    return {words.get(kind, f"the kind {kind}"): int(stage) for kind, stage in stages.items()}
-
-
 def printed_kinds() -> list[str]:
     """The first fields of all rows that are printed."""
     text = text_of("crates/gd_replies/specs/Lines.antt")
     return sorted(set(re.findall(r'^(?:uncertified_fields .*|fields_of .*) =\s+codes "(\w+)"', text, re.M)))
-
-
-def imported_forms() -> dict[Form, int]:
-    """The forms of rows that the importer takes, each with its stage. Of the words that a field takes the first is in its form."""
-    def first(titles: str | Form) -> Form:
-        words = titles.split() if isinstance(titles, str) else titles
-        return tuple(word.split("|")[0] for word in words)
-
-    found = {(kind, *first(titles)): stage for stage, kinds in enumerate(STAGES, 1) for kind, titles in kinds.items()}
-    found[("contract", *(word.split("|")[-1] for word in INTERRUPTIBLE))] = 2
-    return found
 
 
 def told_fields() -> dict[str, int]:
@@ -234,26 +195,22 @@ def differing(what: str, first: object, second: object) -> Iterator[str | None]:
 def faults() -> Iterator[str | None]:
     helps = helps_in(HELP.read_text(encoding="utf-8"))
     program, check, day = helps["program"], helps["check"], helps["day"]
-    defined, imported = defined_forms(), imported_forms()
-    yield from differing("forms of rows in DEFINITIONS and in the help", sorted(set(defined) ^ helped_forms(program)), [])
-    taken = {form: stage for form, stage in defined.items() if form[0] != "bumped"}
-    for form in sorted(set(taken) | set(imported)):
-        yield from differing(f"the stage of {','.join(form)} in DEFINITIONS and in the importer", taken.get(form), imported.get(form))
-    read, messages = read_kinds(), text_of("crates/gd_messages/src/kind.rt")
-    yield from differing("kinds in Kinds and in DEFINITIONS, with their stages", read, {form[0]: stage for form, stage in defined.items()})
+    rows, read, messages = row_forms(), stages(), text_of("crates/gd_messages/src/kind.rt")
+    told = {row.kind: row.stage or stage_of(row) for row in rows}
+    yield from differing("kinds in Kinds and in the help, with their stages", read, told)
     named = set(re.findall(r'\(RowKind::\w+, "(\w+)"\)', messages))
     yield from differing("words of kinds in Kinds and in messages", sorted(set(read) ^ named), ["bumped"])
     definitions = text_of("docs/DEFINITIONS.md")
     for kind in printed_kinds():
-        told = any(re.search(rf"\b{kind}\b", text) for text in helps.values())
-        yield from differing(f"rows {kind}: told in a help, and in DEFINITIONS", (told, f"`{kind}" in definitions), (True, True))
+        is_told = any(re.search(rf"\b{kind}\b", text) for text in helps.values())
+        yield from differing(f"rows {kind}: told in a help, and in DEFINITIONS", (is_told, f"`{kind}" in definitions), (True, True))
     fields = told_fields()
-    for kind in sorted({form[0] for form in taken}):
-        wanted = max(len(form) for form in taken if form[0] == kind)
-        yield from differing(f"the fields of {kind} in DEFINITIONS and in messages", wanted, fields.get(kind, 2))
-    tested, told = tested_refusals(), helped_refusals(day)
+    for kind in sorted({row.kind for row in rows if row.is_taken}):
+        wanted = max(len(row.fields) + 1 for row in rows if row.kind == kind)
+        yield from differing(f"the fields of {kind} in the help and in messages", wanted, fields.get(kind, 2))
+    tested, helped = tested_refusals(), helped_refusals(day)
     for call, names in tested.items():
-        yield from differing(f"the refusals of {call} in the machine and in the help", names, told.get(call))
+        yield from differing(f"the refusals of {call} in the machine and in the help", names, helped.get(call))
         word = next(event for event, row in CALLS.items() if row == call).replace("PostCapacity", "Post")
         numbers = [number_of(word, name) for name in names]
         yield from differing(f"the numbers of the refusals of {call}, {names}", numbers, [*range(1, len(names) + 1)])

@@ -5,7 +5,9 @@ What stands in documents, in the companion and in the completions of the program
 command line (line.rt and order.rt beside that) is made of these:
 
 - companion/gasday_report/refusals.py: what each refusal of a call says, without its remedy;
-- the table of refusals in docs/DEFINITIONS.md;
+- companion/gasday_import/stages.py: the fields of each kind of row, with the words that messages tell of a field
+  (crates/gd_messages/src/field.rt) and the stages of the definitions (crates/gd_text_part/specs/Kinds.antt);
+- the tables of rows and of refusals in docs/DEFINITIONS.md;
 - completions/gasday.bash, _gasday and gasday.fish;
 - the table of commands in README.md.
 
@@ -15,7 +17,6 @@ status is 0 only where all is.
 """
 
 import difflib
-import re
 import sys
 from pathlib import Path
 
@@ -24,30 +25,36 @@ sys.dont_write_bytecode = True
 from command_line import TOP, Fault
 from gasday_completions import in_bash, in_fish, in_zsh
 from help_tables import commands_table, made_of, refusals_module, refusals_table
+from row_tables import rows_table, stages_module
 
 SCRIPT = Path(__file__).name
 
 
-def between(path: Path, name: str, text: str) -> str:
-    """A document with this table between its two comments."""
-    first, last = f"<!-- {name}: tests/{SCRIPT} makes this table -->", f"<!-- end of {name} -->"
+def between(path: Path, tables: dict[str, str]) -> str:
+    """A document with each of these tables between its two comments."""
     whole = path.read_text(encoding="utf-8")
-    if whole.count(first) != 1 or whole.count(last) != 1:
-        raise Fault(f"{path.relative_to(TOP)} has not once the lines {first} and {last}")
-    return re.sub(rf"{re.escape(first)}\n.*?{re.escape(last)}", lambda _: f"{first}\n\n{text}\n\n{last}", whole, flags=re.S)
+    for name, text in tables.items():
+        first, last = f"<!-- {name}: tests/{SCRIPT} makes this table -->", f"<!-- end of {name} -->"
+        before, _, behind = whole.partition(f"{first}\n")
+        if whole.count(first) != 1 or behind.count(last) != 1:
+            raise Fault(f"{path.relative_to(TOP)} has not once the lines {first} and {last}")
+        whole = f"{before}{first}\n\n{text}\n\n{last}{behind.partition(last)[2]}"
+    return whole
 
 
 def made() -> dict[Path, str]:
     """Each file as it is made."""
-    definitions, readme, completions = TOP / "docs" / "DEFINITIONS.md", TOP / "README.md", TOP / "completions"
+    definitions, readme = TOP / "docs" / "DEFINITIONS.md", TOP / "README.md"
+    companion, completions = TOP / "companion", TOP / "completions"
     line = made_of(SCRIPT, "the program's command line")
     return {
         completions / "gasday.bash": in_bash(line),
         completions / "_gasday": in_zsh(line),
         completions / "gasday.fish": in_fish(line),
-        readme: between(readme, "commands", commands_table()),
-        TOP / "companion" / "gasday_report" / "refusals.py": refusals_module(SCRIPT),
-        definitions: between(definitions, "refusals", refusals_table()),
+        readme: between(readme, {"commands": commands_table()}),
+        companion / "gasday_report" / "refusals.py": refusals_module(SCRIPT),
+        companion / "gasday_import" / "stages.py": stages_module(SCRIPT),
+        definitions: between(definitions, {"rows": rows_table(), "refusals": refusals_table()}),
     }
 
 

@@ -1,38 +1,18 @@
-"""The kinds of rows: the stage of a text in which each stands, and what its fields are."""
+"""The kinds of rows: the stage of a text in which each stands, and what its fields are.
+
+Their titles stand in stages.py, which tests/make_tables.py makes. A title is a word in capitals, or the words that its field takes.
+"""
 
 import re
 from dataclasses import dataclass
 
+from .stages import SECOND, STAGES
+
 FIELDS = 8
 Form = tuple[str, ...]
 
-# The kinds of each stage, with the titles of the fields behind them. A title is a word in capitals, or the words that its
-# field takes.
-STAGES = (
-    {"segment": "NAME FROM TO CAPACITY", "point": "NAME receipt|delivery PLACE OPERATOR CAPACITY", "pool": "NAME PLACE OPERATOR"},
-    {"contract": "NAME SHIPPER firm|interruptible QUANTITY ORIGIN DEST"},
-    {"question": "BOOK CYCLE ROUND", "day": "DATE ZONE BOOK"},
-    {"capacity": "ELEMENT CAPACITY", "carry": "CONTRACT PACKAGE ORIGIN DEST QUANTITY"},
-    {"line": "ORIGIN DEST CLASS FLOOR CEILING"},
-    {"sched": "LINE QUANTITY"},
-    {"price": "ELEMENT LEVEL WORD SPREAD"},
-    {"inside": "place|point|pool NAME"},
-    {
-        "nominate": "MOMENT PARTY CONTRACT PACKAGE ORIGIN DEST QUANTITY",
-        "respond": "MOMENT PARTY LINE origin|dest QUANTITY",
-        "post": "MOMENT ELEMENT CAPACITY",
-        "freeze": "MOMENT",
-        "settle": "MOMENT",
-        "skip": "MOMENT",
-        "publish": "MOMENT ROUND",
-        "declare": "MOMENT ROUND",
-        "waive": "MOMENT LINE",
-        "session": "SLOT PARTY",
-        "desk": "MOMENT",
-    },
-)
 PIPELINE, EVENT = 1, len(STAGES)
-INTERRUPTIBLE = ("NAME", "SHIPPER", "firm|interruptible", "QUANTITY", "BAND")
+INTERRUPTIBLE = tuple(SECOND["contract"].split())
 # A confirmation that names its line by what it was nominated with. It has a ninth field, and no text of `gasday` has it.
 NAMED_RESPOND = ("MOMENT", "PARTY", "CONTRACT", "PACKAGE", "ORIGIN", "DEST", "origin|dest", "QUANTITY")
 
@@ -81,7 +61,7 @@ def kinds_of(stage: int, forms: dict[str, str]) -> dict[str, Kind]:
     kinds = {}
     for kind, form in forms.items():
         titles = tuple(form.split())
-        more = [INTERRUPTIBLE] if kind == "contract" else []
+        more = [tuple(SECOND[kind].split())] if kind in SECOND else []
         kinds[kind] = Kind(stage, titles, clean_row(kind, titles, *more))
     return kinds
 

@@ -8,41 +8,27 @@ from .forms import KINDS, forms_of
 KIND_NAMES = ("kind", "kind of row", "row", "row kind", "row type", "record", "record type")
 AMOUNT = ("capacity", "quantity", "qty", "q", "dth", "dekatherms")
 
-# What each field may be called; the first is its own name.
+# What a field may be called beside its own name in small letters, which comes first here. Others are called by that alone.
 NAMES = {
-    "NAME": ("name",),
     "FROM": ("from", "from place"),
     "TO": ("to", "to place"),
     "CAPACITY": AMOUNT,
     "QUANTITY": ("quantity", *AMOUNT),
     "receipt|delivery": ("type", "point type", "direction", "receipt or delivery", "receipt delivery"),
-    "PLACE": ("place",),
-    "OPERATOR": ("operator",),
-    "SHIPPER": ("shipper",),
     "firm|interruptible": ("service", "service type", "type", "firm or interruptible", "firm interruptible"),
     "ORIGIN": ("origin", "receipt", "receipt point", "receipt location", "from"),
     "DEST": ("dest", "destination", "delivery", "delivery point", "delivery location", "to"),
     "BAND": ("band", "rate band"),
-    "BOOK": ("book",),
-    "CYCLE": ("cycle",),
-    "ROUND": ("round",),
     "DATE": ("date", "gas day", "day"),
     "ZONE": ("zone", "time zone"),
     "ELEMENT": ("element", "name", "location"),
     "CONTRACT": ("contract", "contract number"),
     "PACKAGE": ("package", "package id"),
-    "CLASS": ("class",),
-    "FLOOR": ("floor",),
-    "CEILING": ("ceiling",),
     "LINE": ("line", "line number"),
     "LEVEL": ("level", "class"),
-    "WORD": ("word",),
-    "SPREAD": ("spread",),
     "place|point|pool": ("member", "type"),
     "MOMENT": ("moment", "time", "date and time", "date time", "timestamp"),
-    "PARTY": ("party",),
     "origin|dest": ("end", "side", "origin or dest", "origin dest", "receipt or delivery", "receipt delivery"),
-    "SLOT": ("slot",),
 }
 # What else a field may be called in a row of one kind.
 MORE = {
@@ -78,7 +64,7 @@ def names_in(title: str) -> tuple[str, ...]:
 @functools.cache
 def names_of(kind: str, title: str) -> tuple[str, ...]:
     """What a field of a kind of row may be called."""
-    return NAMES[title] + MORE.get((kind, title), ())
+    return NAMES.get(title, (plain(title.replace("|", " or ")),)) + MORE.get((kind, title), ())
 
 
 @functools.cache
