@@ -1,6 +1,8 @@
 """Tests of the completions of gasday itself: what bash offers for the words of the command line as `gasday --help` has them, and
 that the other shells read theirs. tests/make_tables.py makes them of the program's command line."""
 
+import os
+import re
 import shutil
 import subprocess
 import tempfile
@@ -9,6 +11,7 @@ from pathlib import Path
 
 TOP = Path(__file__).resolve().parents[2]
 COMPLETIONS = TOP / "completions" / "gasday.bash"
+BUILT = TOP / "crates" / "gasday" / "out" / "gasday"
 SCRIPT = 'source "$1"; shift; COMP_WORDS=("$@"); COMP_CWORD=$(($# - 1)); _gasday; printf "%s\\n" "${COMPREPLY[@]}"'
 FILES = ["a book.db", "other.db", "text.csv"]
 
@@ -34,6 +37,19 @@ class Completing(unittest.TestCase):
         self.assertEqual(self.offers("-"), ["--help", "--version"])
         self.assertEqual(self.offers("x"), [])
         self.assertEqual(self.offers("help", "solve", ""), [])
+
+    @unittest.skipUnless(os.access(BUILT, os.X_OK), "the program is not built")
+    def test_what_the_program_tells(self) -> None:
+        def told(*words: str) -> str:
+            return subprocess.run([BUILT, *words, "-h"], capture_output=True, text=True, timeout=600).stdout
+
+        listed = told().partition("\nCommands:\n")[2].partition("\n\n")[0]
+        commands = re.findall(r"^  ([a-z]+) ", listed, re.M)
+        self.assertEqual(self.offers(""), sorted(["--help", "--version", *commands]))
+        for command in commands:
+            options = told(command).partition("\nOptions:\n")[2].partition("\n\n")[0]
+            wanted = sorted(re.findall(r"^ +(?:-\w, )?(--[a-z]+)", options, re.M)) if command != "help" else []
+            self.assertEqual(self.offers(command, "--"), wanted, command)
 
     def test_checks(self) -> None:
         self.assertEqual(self.offers("check", ""), sorted(["--help", "allowed", "best", "cut", *FILES]))
