@@ -3,10 +3,10 @@
 
     bench/measure.py PROGRAM [--runs N] [--check allowed|best]
 
-Each shape's text is made by generate.py beside this file. The program and
-Python's csv.reader, which only splits the same text into fields, then read it
-in turn. The table has the best wall time of each and the program's greatest
-peak of memory; 1 MB is 1,000,000 bytes. The aim for the peak is 64 MB and 20
+Each shape's text is made by generate.py beside this file. The program,
+Python's csv.reader and, where it is installed, mawk, which only split the same
+text into fields, then read it in turn. The table has the best wall time of each
+and the program's greatest peak of memory; 1 MB is 1,000,000 bytes. The aim for the peak is 64 MB and 20
 times the text. Nothing is asserted about speed or memory: the exit status is 1
 only where the program doesn't answer `allowed`, or `best`, first.
 """
@@ -28,6 +28,7 @@ READER = [
     "-c",
     "import csv,sys; [None for _ in csv.reader(sys.stdin)]",
 ]
+MAWK = ["mawk", "-F,", "{ fields += NF } END { print fields }"]
 MEGABYTE = 1_000_000
 # The unit of ru_maxrss.
 RSS_BYTES = 1 if sys.platform == "darwin" else 1024
@@ -53,6 +54,11 @@ def run(words, text):
         return Run(seconds, usage.ru_maxrss * RSS_BYTES, child.returncode, first)
 
 
+def least(runs):
+    """The best time of these runs in words, or nothing where there is none."""
+    return f"{min(r.seconds for r in runs):.3f}" if runs else ""
+
+
 def measure(program, check, shape, text, runs):
     """Prints the shape's row of the table. Answers whether each run of the
     program answered by the check's word first."""
@@ -60,16 +66,19 @@ def measure(program, check, shape, text, runs):
     with open(text, "wb") as target:
         subprocess.run(words, stdout=target, check=True)
     content = text.read_bytes()
-    ours, theirs = [], []
+    ours, theirs, mawks = [], [], []
     for _ in range(runs):
         ours.append(run([program, "check", check], text))
         theirs.append(run(READER, text))
+        if shutil.which(MAWK[0]) is not None:
+            mawks.append(run(MAWK, text))
     rows = content.count(b"\n")
     aim = 64 + 20 * len(content) / MEGABYTE
     print(
         f"{shape:<10}{len(content):>10}{rows:>8}"
         f"{min(r.seconds for r in ours):>11.3f}"
         f"{min(r.seconds for r in theirs):>14.3f}"
+        f"{least(mawks):>8}"
         f"{max(r.peak for r in ours) / MEGABYTE:>10.1f}{aim:>8.1f}",
         flush=True,
     )
@@ -96,15 +105,15 @@ def main():
     if shutil.which(arguments.program) is None:
         print(f"{arguments.program} isn't a program", file=sys.stderr)
         return 1
-    print("shape          bytes    rows  program s  csv.reader s   peak MB  aim MB")
+    print("shape          bytes    rows  program s  csv.reader s  mawk s   peak MB  aim MB")
     with tempfile.TemporaryDirectory() as folder:
         text = Path(folder) / "question.csv"
         answers = [
             measure(arguments.program, arguments.check, shape, text, arguments.runs)
             for shape in SHAPES
         ]
-    least = run(["true"], os.devnull).peak / MEGABYTE
-    print(f"No peak below {least:.1f} MB can be seen: doing nothing shows as much.")
+    peak = run(["true"], os.devnull).peak / MEGABYTE
+    print(f"No peak below {peak:.1f} MB can be seen: doing nothing shows as much.")
     return 0 if all(answers) else 1
 
 

@@ -43,6 +43,8 @@ LEMON = Path(__file__).resolve().parent / "lemon.cpp"
 CLASSES = 8
 # Seconds that no question takes whose proposal is taken.
 REFUSED = 10
+# How many arcs LEMON has for a line.
+ARCS = (10, 1)
 
 
 class Case(NamedTuple):
@@ -148,20 +150,19 @@ def compile_lemon(folder):
     lemon = folder / "lemon"
     words = ["g++", "-O3", "-std=gnu++17", LEMON, "-o", lemon]
     if shutil.which("g++") is None:
-        print("There is no g++, so LEMON's column is empty.")
+        print("There is no g++, so LEMON's columns are empty.")
         return None
     if subprocess.run(words, stderr=subprocess.DEVNULL).returncode != 0:
-        print("lemon.cpp doesn't compile (liblemon-dev?), so LEMON's column is empty.")
+        print("lemon.cpp doesn't compile (liblemon-dev?), so LEMON's columns are empty.")
         return None
     return lemon
 
 
-def run_lemon(lemon, text, seconds):
-    """Seconds and the answer, or None where the run was ended."""
+def run_lemon(lemon, text, arcs, seconds):
+    """Seconds and the answer with so many arcs a line, or None where the run was ended."""
+    words = [lemon, text, str(arcs)]
     try:
-        run = subprocess.run(
-            [lemon, text], stdout=subprocess.PIPE, timeout=seconds, check=True
-        )
+        run = subprocess.run(words, stdout=subprocess.PIPE, timeout=seconds, check=True)
     except subprocess.TimeoutExpired:
         return None
     took, first, *totals = run.stdout.decode().split()
@@ -209,24 +210,29 @@ def measure(case, text, lemon, arguments):
     limit = arguments.seconds
     with open(text, "wb") as target:
         subprocess.run([sys.executable, GENERATE, *case.words], stdout=target, check=True)
-    runs, theirs = [], []
+    runs, theirs = [], {arcs: [] for arcs in ARCS}
     for _ in range(arguments.runs):
         runs.append(run_program([arguments.program, "solve"], text, limit))
-        if lemon is not None and None not in theirs:
-            theirs.append(run_lemon(lemon, text, limit))
+        for arcs, found in theirs.items():
+            if lemon is not None and None not in found:
+                found.append(run_lemon(lemon, text, arcs, limit))
         if runs[-1].status is None:
             break
-    theirs = [run for run in theirs if run is not None]
+    theirs = {arcs: [run for run in found if run is not None] for arcs, found in theirs.items()}
     proposed = run_trial(arguments.trial, text, limit) if arguments.trial else None
     rows = text.read_bytes().count(b"\n")
     took = least([run.seconds for run in runs if run.status is not None], limit)
     used = min(run.processor for run in runs)
     peak = max(run.peak for run in runs) / MEGABYTE
-    their_best = "" if lemon is None else least([seconds for seconds, _ in theirs], limit)
+    their_best = "".join(
+        f"{least([seconds for seconds, _ in found], limit) if lemon is not None else '':>10}"
+        for found in theirs.values()
+    )
     pivots = "" if proposed is None else proposed[1]
     cells = f"{case.name:<22}{rows:>8}{took:>10}{used:>11.3f}{peak:>9.1f}"
-    print(f"{cells}{their_best:>10}{pivots:>9}".rstrip(), flush=True)
-    wrong = list(dict.fromkeys(complaints(case, runs, theirs, proposed)))
+    print(f"{cells}{their_best}{pivots:>9}".rstrip(), flush=True)
+    everyone = [run for found in theirs.values() for run in found]
+    wrong = list(dict.fromkeys(complaints(case, runs, everyone, proposed)))
     for complaint in wrong:
         print(f"{case.name}: {complaint}", file=sys.stderr, flush=True)
     return not wrong
@@ -254,7 +260,7 @@ def main():
         text = Path(folder) / "question.csv"
         lemon = compile_lemon(Path(folder))
         cells = f"{'question':<22}{'rows':>8}{'seconds':>10}{'processor':>11}{'peak MB':>9}"
-        print(f"{cells}{'LEMON s':>10}{'pivots':>9}", flush=True)
+        print(f"{cells}{'LEMON 10':>10}{'LEMON 1':>10}{'pivots':>9}", flush=True)
         right = [
             measure(case, text, lemon, arguments)
             for case in CASES

@@ -4,3 +4,4 @@ pub mod LinkWalks
 pub mod LabelPotentials
 pub mod Table
 pub mod PotentialTests
+pub mod Tenths

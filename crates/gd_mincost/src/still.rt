@@ -1,9 +1,9 @@
 //! Whether potentials show that a flow is best.
 
-ghost use Rattle.std.specs.Prelude.{◌≡◌, ◌+◌, ◌<◌, ◌^◌, pos, true, false, length, map, IsTrue};
+ghost use Rattle.std.specs.Prelude.{◌≡◌, ℕ, suc, ◌+◌, ◌<◌, ◌^◌, pos, true, false, length, map, IfSome, IsTrue};
 ghost use Rattle.gd_scale.specs.Scale.{AtMost};
 ghost use Rattle.gd_mincost.specs.Settling.{potential, worth};
-ghost use Rattle.gd_mincost.specs.Stillness.{AreSmall, IsStillAlong, IsStillBack, ShowsBest};
+ghost use Rattle.gd_mincost.specs.Stillness.{AreSmall, IsStillAlong, IsStillBack, GainsNoneAlong, GainsNoneBack, IsBeforeTenth, ShowsBest};
 
 use crate::MAX_POTENTIAL_WORD;
 use crate::gains::gain_of;
@@ -36,53 +36,159 @@ fn raises_none<C: Cost>(potentials: &[C], from: usize, to: usize, gain: C) -> bo
     true
 }
 
-/// Whether an arc gains nothing by carrying more, or can't.
-fn is_still_along<C: ByClass>(
-    network: &Network<'_>,
-    flow: &[i64],
-    potentials: &[C],
-    number: usize,
-) -> bool
+/// Whether an arc gains nothing by carrying more.
+fn gains_none_along<C: ByClass>(network: &Network<'_>, potentials: &[C], number: usize) -> bool
     requires arc { number < length network.now.arcs }
-    requires size { length flow.now ≡ length network.now.arcs }
     requires nodes { length potentials.now ≡ length network.now.question.asked.elements + 1 }
     requires small { AreSmall C.scale C.within (map C.meaning potentials.now) }
     ensures { result ≡ true
-        → IsStillAlong C.scale (worth C.meaning C.at)
-        network.now.question.asked network.now.arcs flow.now (map C.meaning potentials.now) number }
+        → GainsNoneAlong C.scale (worth C.meaning C.at)
+        network.now.question.asked network.now.arcs (map C.meaning potentials.now) number }
 {
     network.known();
     let arc = network.arc(number);
-    if flow[number] >= arc.upper {
-        return true;
-    }
     let gain = gain_of::<C>(network, number);
     raises_none(potentials, arc.from, arc.to, gain)
 }
 
-/// Whether an arc gains nothing by carrying less, or can't.
-fn is_still_back<C: ByClass>(
+/// Whether an arc gains nothing by carrying less.
+fn gains_none_back<C: ByClass>(network: &Network<'_>, potentials: &[C], number: usize) -> bool
+    requires arc { number < length network.now.arcs }
+    requires nodes { length potentials.now ≡ length network.now.question.asked.elements + 1 }
+    requires small { AreSmall C.scale C.within (map C.meaning potentials.now) }
+    ensures { result ≡ true
+        → GainsNoneBack C.scale (worth C.meaning C.at)
+        network.now.question.asked network.now.arcs (map C.meaning potentials.now) number }
+{
+    network.known();
+    let arc = network.arc(number);
+    let gain = gain_of::<C>(network, number);
+    let turned = C::zero().sub(gain);
+    raises_none(potentials, arc.to, arc.from, turned)
+}
+
+/// Whether the arc behind one stands for the next tenth of the same line.
+fn is_before_tenth(network: &Network<'_>, number: usize) -> bool
+    requires { number < length network.now.arcs }
+    ensures { result ≡ true → IsBeforeTenth network.now.question.asked number }
+{
+    match network.tenth(number) {
+        Some(tenth) => tenth.before < 9,
+        None => false,
+    }
+}
+
+/// Finds that an arc gains nothing by carrying more, or can't, and whether that is known of the next one too: a later tenth
+/// of a line gains no more. `None` where it gains. Of this arc it may be known already.
+fn still_along<C: ByClass>(
     network: &Network<'_>,
     flow: &[i64],
     potentials: &[C],
     number: usize,
-) -> bool
+    is_known: bool,
+) -> Option<bool>
     requires arc { number < length network.now.arcs }
     requires size { length flow.now ≡ length network.now.arcs }
     requires nodes { length potentials.now ≡ length network.now.question.asked.elements + 1 }
     requires small { AreSmall C.scale C.within (map C.meaning potentials.now) }
-    ensures { result ≡ true
-        → IsStillBack C.scale (worth C.meaning C.at)
-        network.now.question.asked network.now.arcs flow.now (map C.meaning potentials.now) number }
+    requires known { is_known ≡ true
+        → GainsNoneAlong C.scale (worth C.meaning C.at)
+        network.now.question.asked network.now.arcs (map C.meaning potentials.now) number }
+    ensures still { IfSome result (λ _. IsStillAlong C.scale (worth C.meaning C.at)
+        network.now.question.asked network.now.arcs flow.now (map C.meaning potentials.now)
+        number) }
+    ensures next { IfSome result (λ next. next ≡ true
+        → GainsNoneAlong C.scale (worth C.meaning C.at)
+        network.now.question.asked network.now.arcs (map C.meaning potentials.now) (suc number)) }
 {
     network.known();
-    let arc = network.arc(number);
-    if flow[number] <= arc.lower {
-        return true;
+    if !is_known {
+        if flow[number] >= network.arc(number).upper {
+            return Some(false);
+        }
+        if !gains_none_along(network, potentials, number) {
+            return None;
+        }
     }
-    let gain = gain_of::<C>(network, number);
-    let turned = C::zero().sub(gain);
-    raises_none(potentials, arc.to, arc.from, turned)
+    Some(is_before_tenth(network, number))
+}
+
+/// Finds that an arc gains nothing by carrying less, or can't, and whether that is known of the one before too: an earlier
+/// tenth of a line is worth no less. `None` where it gains. Of this arc it may be known already.
+fn still_back<C: ByClass>(
+    network: &Network<'_>,
+    flow: &[i64],
+    potentials: &[C],
+    number: usize,
+    is_known: bool,
+) -> Option<bool>
+    requires arc { number < length network.now.arcs }
+    requires size { length flow.now ≡ length network.now.arcs }
+    requires nodes { length potentials.now ≡ length network.now.question.asked.elements + 1 }
+    requires small { AreSmall C.scale C.within (map C.meaning potentials.now) }
+    requires known { is_known ≡ true
+        → GainsNoneBack C.scale (worth C.meaning C.at)
+        network.now.question.asked network.now.arcs (map C.meaning potentials.now) number }
+    ensures still { IfSome result (λ _. IsStillBack C.scale (worth C.meaning C.at)
+        network.now.question.asked network.now.arcs flow.now (map C.meaning potentials.now)
+        number) }
+    ensures next { IfSome result (λ next. next ≡ true → (k : ℕ) → suc k ≡ number
+        → GainsNoneBack C.scale (worth C.meaning C.at)
+        network.now.question.asked network.now.arcs (map C.meaning potentials.now) k) }
+{
+    network.known();
+    if !is_known {
+        if flow[number] <= network.arc(number).lower {
+            return Some(false);
+        }
+        if !gains_none_back(network, potentials, number) {
+            return None;
+        }
+    }
+    if number == 0 {
+        return Some(false);
+    }
+    Some(is_before_tenth(network, number - 1))
+}
+
+/// Whether no arc that can carry more gains by it.
+fn are_still_along<C: ByClass>(network: &Network<'_>, flow: &[i64], potentials: &[C]) -> bool
+    requires size { length flow.now ≡ length network.now.arcs }
+    requires nodes { length potentials.now ≡ length network.now.question.asked.elements + 1 }
+    requires small { AreSmall C.scale C.within (map C.meaning potentials.now) }
+    ensures { result ≡ true → (a : ℕ) → a < length network.now.arcs
+        → IsStillAlong C.scale (worth C.meaning C.at)
+        network.now.question.asked network.now.arcs flow.now (map C.meaning potentials.now) a }
+{
+    let mut is_known = false;
+    for number in 0..network.arc_count() {
+        match still_along(network, flow, potentials, number, is_known) {
+            Some(next) => is_known = next,
+            None => return false,
+        }
+    }
+    true
+}
+
+/// Whether no arc that can carry less gains by it, from the last one on.
+fn are_still_back<C: ByClass>(network: &Network<'_>, flow: &[i64], potentials: &[C]) -> bool
+    requires size { length flow.now ≡ length network.now.arcs }
+    requires nodes { length potentials.now ≡ length network.now.question.asked.elements + 1 }
+    requires small { AreSmall C.scale C.within (map C.meaning potentials.now) }
+    ensures { result ≡ true → (a : ℕ) → a < length network.now.arcs
+        → IsStillBack C.scale (worth C.meaning C.at)
+        network.now.question.asked network.now.arcs flow.now (map C.meaning potentials.now) a }
+{
+    let count = network.arc_count();
+    let mut is_known = false;
+    for step in 0..count {
+        let number = count - 1 - step;
+        match still_back(network, flow, potentials, number, is_known) {
+            Some(before) => is_known = before,
+            None => return false,
+        }
+    }
+    true
 }
 
 /// Whether no step that has room gains.
@@ -94,15 +200,7 @@ fn is_still<C: ByClass>(network: &Network<'_>, flow: &[i64], potentials: &[C]) -
         → ShowsBest C.scale (worth C.meaning C.at)
         network.now.question.asked network.now.arcs flow.now (map C.meaning potentials.now) }
 {
-    for number in 0..network.arc_count() {
-        if !is_still_along(network, flow, potentials, number) {
-            return false;
-        }
-        if !is_still_back(network, flow, potentials, number) {
-            return false;
-        }
-    }
-    true
+    are_still_along(network, flow, potentials) && are_still_back(network, flow, potentials)
 }
 
 /// Whether no potential is too large.

@@ -120,13 +120,15 @@ fn line_arc(question: &Question, line: usize, tenth: usize) -> Arc
     }
 }
 
-/// The arcs of the elements.
+/// The arcs of the elements, with room for those of the lines.
 fn element_arcs(alloc: Global, question: &Question) -> Result<Vec<Arc>, AllocError>
     ensures { IfOk result
         (λ arcs. FirstArcs question.now.asked (length question.now.asked.elements) arcs.items) }
 {
     question.known();
-    let mut arcs = Vec::new(alloc);
+    let tenths = question.line_count().saturating_mul(10);
+    let count = question.element_count().saturating_add(tenths);
+    let mut arcs = Vec::with_capacity(alloc, count)?;
     for at in 0..question.element_count() {
         arcs.push(element_arc(question.part(Element(at)), at))?;
     }

@@ -7,13 +7,28 @@ ghost use Rattle.gd_network.specs.Links.{touches, AreLinks, lists};
 use crate::Arc;
 use std::alloc::{AllocError, Global};
 
-/// An empty list for each node.
-fn no_links(alloc: Global, nodes: usize) -> Result<Vec<Vec<usize>>, AllocError>
+/// How many arcs begin or end at each node.
+fn degrees(alloc: Global, arcs: &[Arc], nodes: usize) -> Result<Vec<usize>, AllocError> {
+    let mut degrees = vec![in alloc; 0usize; nodes]?;
+    for arc in arcs {
+        for node in [arc.from, arc.to] {
+            if let Some(degree) = degrees.get_mut(node) {
+                *degree = degree.saturating_add(1);
+            }
+        }
+    }
+    Ok(degrees)
+}
+
+/// An empty list for each node, with room for its arcs.
+fn no_links(alloc: Global, arcs: &[Arc], nodes: usize) -> Result<Vec<Vec<usize>>, AllocError>
     ensures { IfOk result (λ links. lists links.items ≡ replicate nodes []) }
 {
-    let mut links = Vec::new(alloc);
-    for _node in 0..nodes {
-        links.push(Vec::new(alloc))?;
+    let degrees = degrees(alloc, arcs, nodes)?;
+    let mut links = Vec::with_capacity(alloc, nodes)?;
+    for node in 0..nodes {
+        let degree = degrees.get(node).copied().unwrap_or(0);
+        links.push(Vec::with_capacity(alloc, degree)?)?;
     }
     Ok(links)
 }
@@ -54,7 +69,7 @@ pub(crate) fn links_of(
     requires to { (a : ℕ) → a < length arcs.now → to_at arcs.now a < nodes }
     ensures { IfOk result (λ links. AreLinks nodes arcs.now (length arcs.now) (lists links.items)) }
 {
-    let mut links = no_links(alloc, nodes)?;
+    let mut links = no_links(alloc, arcs, nodes)?;
     for number in 0..arcs.len() {
         add(&mut links, arcs[number], number)?;
     }

@@ -44,7 +44,7 @@ impl Arc {
 pub(crate) struct Amount {
     pub floor: i64,
     pub ceiling: i64,
-    /// What it carries.
+    /// What it carries. While the tree has the arc, its lower node tells how much more and less it could.
     pub now: i64,
     /// The piece in which it is, with its ends.
     pub piece: u8,

@@ -9,6 +9,7 @@
 #![tactic(auto)]
 
 mod arc;
+mod fill;
 mod pivot;
 mod simplex;
 mod start;

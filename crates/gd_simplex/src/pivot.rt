@@ -10,14 +10,10 @@ pub(crate) struct Entering {
     arc: u32,
     /// Whether it carries more, and not less.
     rises: bool,
-    /// The piece along which it does.
-    piece: u8,
+    /// The piece along which it does; `None` where no arc was found that gains.
+    piece: Option<u8>,
     /// The reduced cost: what a dekatherm gains on the way round.
     gain: Worth,
-    /// Gas is pushed from here ..
-    tail: u32,
-    /// .. to here, and back through the tree.
-    head: u32,
 }
 
 /// How much goes round, and which arc of the tree goes no further.
@@ -33,16 +29,44 @@ struct Leaving {
 }
 
 impl Entering {
-    /// The arc of this number, whose rise or fall in a piece gains so much.
-    fn new(number: u32, arc: Arc, rises: bool, piece: u8, gain: Worth) -> Entering {
-        Entering {
-            arc: number,
-            rises,
-            piece,
-            gain,
-            tail: if rises { arc.from } else { arc.to },
-            head: if rises { arc.to } else { arc.from },
+    /// Where there is no such arc.
+    const NONE: Entering = Entering {
+        arc: 0,
+        rises: true,
+        piece: None,
+        gain: Worth::NONE,
+    };
+
+    /// Gas is pushed from the first of these nodes to the second, and back through the tree.
+    fn ends(self, arc: Arc) -> (u32, u32) {
+        if self.rises {
+            (arc.from, arc.to)
+        } else {
+            (arc.to, arc.from)
         }
+    }
+
+    /// The better of it and an arc that gains so much.
+    fn or(self, arc: u32, rises: bool, piece: u8, gain: Worth) -> Entering {
+        if !gain.is_above(self.gain) {
+            return self;
+        }
+        Entering {
+            arc,
+            rises,
+            piece: Some(piece),
+            gain,
+        }
+    }
+
+    /// What it carries once so much goes round.
+    fn moved(self, before: Amount, amount: i64) -> Amount {
+        let now = if self.rises {
+            before.now.wrapping_add(amount)
+        } else {
+            before.now.wrapping_sub(amount)
+        };
+        Amount { now, ..before }
     }
 }
 
@@ -61,87 +85,74 @@ impl Leaving {
 
 impl Simplex {
     /// The better of a candidate and what an arc gains.
-    #[inline]
-    fn better(&self, best: Option<Entering>, number: u32, arc: Arc) -> Option<Entering> {
+    #[inline(never)]
+    fn better(&self, best: Entering, number: u32) -> Entering {
+        let arc = self.arc(number);
         let mut better = best;
-        let least = match best {
-            Some(entering) => entering.gain,
-            None => Worth::NONE,
-        };
         if let Some(piece) = arc.rise {
-            let gain = self.reduced(arc, piece);
-            if gain.is_above(least) {
-                better = Some(Entering::new(number, arc, true, piece, gain));
-            }
+            better = better.or(number, true, piece, self.reduced(arc, piece));
         }
         if let Some(piece) = arc.fall {
             let gain = Worth::NONE.less(self.reduced(arc, piece));
-            if gain.is_above(least) {
-                better = Some(Entering::new(number, arc, false, piece, gain));
-            }
+            better = better.or(number, false, piece, gain);
         }
         better
     }
 
     /// The best arc of the next block in which there is one that gains, or `None` where none does.
+    ///
+    /// Most arcs gain less by the classes alone, and no more is looked at then.
     pub(crate) fn entering(&mut self) -> Option<Entering> {
-        let mut best = None;
+        let mut best = Entering::NONE;
+        let mut least = self.least_above(Worth::NONE);
         let mut tried = 0usize;
+        let mut number = self.next;
         for _ in 0..self.arcs.len() {
-            let number = short(self.next);
-            self.next = self.next.wrapping_add(1);
-            if self.next >= self.arcs.len() {
-                self.next = 0;
+            if let Some(arc) = self.arcs.get(number) {
+                if !arc.in_tree && self.gains_more(arc, least) {
+                    best = self.better(best, short(number));
+                    least = self.least_above(best.gain);
+                }
             }
-            let arc = self.arc(number);
-            if !arc.in_tree {
-                best = self.better(best, number, arc);
+            number = number.wrapping_add(1);
+            if number >= self.arcs.len() {
+                number = 0;
             }
             tried = tried.wrapping_add(1);
             if tried >= self.block {
-                if best.is_some() {
-                    return best;
+                if best.piece.is_some() {
+                    break;
                 }
                 tried = 0;
             }
         }
-        best
-    }
-
-    /// How much more an arc of the tree can carry towards its parent, or from there.
-    #[inline]
-    fn room(&self, below: u32, number: u32, towards_parent: bool) -> i64 {
-        let amount = self.amount(number);
-        if (self.arc(number).from == below) == towards_parent {
-            amount.high.wrapping_sub(amount.now)
-        } else {
-            amount.now.wrapping_sub(amount.low)
-        }
+        self.next = number;
+        best.piece.map(|_| best)
     }
 
     /// How much can go round, and what stops it: of several arcs the last on the way from where the sides meet (Cunningham).
-    fn leaving(&self, entering: Entering, most: i64) -> Leaving {
+    fn leaving(&self, tail: u32, head: u32, most: i64) -> Leaving {
         let mut leaving = Leaving {
             amount: most,
             below: None,
             at_head: false,
             meeting: 0,
         };
-        let (mut tail, mut head) = (entering.tail, entering.head);
+        let (mut tail, mut head) = (tail, head);
         let (mut at_tail, mut at_head) = (self.tree.node(tail), self.tree.node(head));
         for _ in 0..self.tree.count().saturating_mul(2) {
             if tail == head {
                 break;
             }
             if at_tail.depth >= at_head.depth {
-                let room = self.room(tail, at_tail.arc, false);
+                let room = at_tail.link.down;
                 if room < leaving.amount {
                     leaving = leaving.stopped(room, tail, false);
                 }
                 tail = at_tail.parent;
                 at_tail = self.tree.node(tail);
             } else {
-                let room = self.room(head, at_head.arc, true);
+                let room = at_head.link.up;
                 if room <= leaving.amount {
                     leaving = leaving.stopped(room, head, true);
                 }
@@ -153,97 +164,60 @@ impl Simplex {
         leaving
     }
 
-    /// Carries so much on one side of the way, from a node up to where the sides meet.
-    fn carry(&mut self, from: u32, meeting: u32, amount: i64, towards_parent: bool) {
-        let mut at = from;
-        for _ in 0..self.tree.count() {
-            if at == meeting {
-                return;
-            }
-            let node = self.tree.node(at);
-            let along = (self.arc(node.arc).from == at) == towards_parent;
-            if let Some(place) = self.amounts.get_mut(node.arc as usize) {
-                place.now = if along {
-                    place.now.wrapping_add(amount)
-                } else {
-                    place.now.wrapping_sub(amount)
-                };
-            }
-            at = node.parent;
-        }
-    }
-
-    /// Hangs what is below the leaving arc on the entering one.
-    fn exchange(&mut self, entering: Entering, below: u32, at_head: bool) {
-        let (inner, outer) = if at_head {
-            (entering.head, entering.tail)
-        } else {
-            (entering.tail, entering.head)
-        };
-        let (mut at, mut parent, mut arc) = (inner, outer, entering.arc);
+    /// Hangs what is below the leaving arc on the entering one, which is at `inner` above it now.
+    fn exchange(&mut self, inner: u32, outer: u32, entering: u32, below: u32) {
+        let link = self.link(entering, inner);
+        let (mut at, mut parent, mut above) = (inner, outer, link);
         for _ in 0..self.tree.count() {
             let old = self.tree.node(at);
             self.tree.detach(at);
-            self.tree.attach(at, parent, arc);
+            self.tree.attach(at, parent, above);
             if at == below {
-                break;
+                return;
             }
-            (parent, arc, at) = (at, old.arc, old.parent);
+            (parent, above, at) = (at, old.link.reversed(), old.parent);
         }
-        let rise = if at_head {
-            entering.gain
-        } else {
-            Worth::NONE.less(entering.gain)
-        };
-        self.raise(inner, rise);
     }
 
-    /// Raises the potentials of a node and of those below it.
-    fn raise(&mut self, top: u32, rise: Worth) {
-        let mut at = top;
-        for _ in 0..self.tree.count() {
-            self.tree.deepen(at);
-            if let Some(potential) = self.potentials.get_mut(at as usize) {
-                *potential = potential.plus(rise);
-            }
-            match self.tree.after(at, top) {
-                None => return,
-                Some(next) => at = next,
-            }
+    /// Lets the entering arc take the place of the one above a node.
+    fn replace(&mut self, entering: Entering, after: Amount, below: u32, at_head: bool) {
+        let (number, amount) = self.carried(below);
+        self.rest(number, amount, false);
+        self.rest(entering.arc, after, true);
+        let (tail, head) = entering.ends(self.arc(entering.arc));
+        if at_head {
+            self.exchange(head, tail, entering.arc, below);
+            self.raise(head, entering.gain);
+        } else {
+            self.exchange(tail, head, entering.arc, below);
+            self.raise(tail, Worth::NONE.less(entering.gain));
         }
     }
 
     /// Carries as much as there is room for along an arc and back through the tree.
     pub(crate) fn pivot(&mut self, entering: Entering) {
         self.pivots = self.pivots.wrapping_add(1);
-        let class = self.arc(entering.arc).class;
+        let arc = self.arc(entering.arc);
+        let piece = entering.piece.unwrap_or(0);
         let before = self
             .amount(entering.arc)
-            .in_piece(class, self.tenths, entering.piece);
+            .in_piece(arc.class, self.tenths, piece);
         let most = if entering.rises {
             before.high.wrapping_sub(before.now)
         } else {
             before.now.wrapping_sub(before.low)
         };
-        let leaving = self.leaving(entering, most);
-        let moved = if entering.rises {
-            before.now.wrapping_add(leaving.amount)
-        } else {
-            before.now.wrapping_sub(leaving.amount)
-        };
-        let after = Amount {
-            now: moved,
-            ..before
-        };
+        let (tail, head) = entering.ends(arc);
+        let leaving = self.leaving(tail, head, most);
         if leaving.amount != 0 {
-            self.carry(entering.tail, leaving.meeting, leaving.amount, false);
-            self.carry(entering.head, leaving.meeting, leaving.amount, true);
+            self.tree
+                .carry(tail, leaving.meeting, leaving.amount.wrapping_neg());
+            self.tree.carry(head, leaving.meeting, leaving.amount);
         }
-        self.rest(entering.arc, after, leaving.below.is_some());
-        if let Some(below) = leaving.below {
-            let number = self.tree.node(below).arc;
-            self.rest(number, self.amount(number), false);
-            self.exchange(entering, below, leaving.at_head);
+        let after = entering.moved(before, leaving.amount);
+        match leaving.below {
+            Some(below) => self.replace(entering, after, below, leaving.at_head),
+            None => self.rest(entering.arc, after, false),
         }
     }
 }

@@ -3,8 +3,9 @@
 ghost use Rattle.std.specs.Prelude.{◌≡◌, ◌<◌, length, IfOk};
 
 use crate::arc::{Amount, Arc, short};
+use crate::fill::fill;
 use crate::simplex::Simplex;
-use crate::tree::Tree;
+use crate::tree::{Link, Tree};
 use gd_question::{Element, Part, Question};
 use gd_schedule::{Schedule, load_table};
 use gd_units::Dth;
@@ -78,7 +79,7 @@ fn add_elements(
     question.known();
     for at in 0..question.element_count() {
         let (arc, most, anchor) = element_arc(question.part(Element(at)), short(at + 1));
-        tree.attach(short(at + 1), anchor, short(at));
+        tree.attach(short(at + 1), anchor, Link::of(short(at)));
         arcs.push(arc)?;
         let load = loads.get(at).copied().unwrap_or(0);
         amounts.push(Amount::between(0, most, load))?;
@@ -105,7 +106,7 @@ fn add_lines(
     Ok(())
 }
 
-/// The simplex that begins with a schedule brought between floors and ceilings.
+/// The simplex that begins with a schedule brought between floors and ceilings, of which lines that can be had whole are raised.
 pub(crate) fn start(
     alloc: Global,
     question: &Question,
@@ -119,5 +120,6 @@ pub(crate) fn start(
     let mut amounts = Vec::new(alloc);
     add_elements(question, &loads, &mut tree, &mut arcs, &mut amounts)?;
     add_lines(question, &quantities, &mut arcs, &mut amounts)?;
+    fill(alloc, &tree, &arcs, &mut amounts)?;
     Simplex::of(alloc, arcs, amounts, tree)
 }

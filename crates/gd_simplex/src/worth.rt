@@ -10,6 +10,12 @@ const CLASS_BITS: u32 = 14;
 /// How many bits a class has in `Worth::spread`.
 const SPREAD_BITS: u32 = 16;
 
+/// How many bits a class has in a short worth, in its upper half and in its lower one.
+const SHORT_BITS: u32 = 6;
+
+/// The bits of half a number.
+const HALF: u32 = 64;
+
 /// The eight classes, and class 0 for elements.
 const CLASSES: usize = Class::COUNT + 1;
 
@@ -25,8 +31,8 @@ const PIECES: usize = 16;
 /// else would be wrong.
 #[derive(Clone, Copy, Debug, PartialEq, Eq, PartialOrd, Ord)]
 pub struct Worth {
-    classes: i128,
-    spread: i128,
+    pub(crate) classes: i128,
+    pub(crate) spread: i128,
 }
 
 impl Worth {
@@ -35,6 +41,12 @@ impl Worth {
         classes: 0,
         spread: 0,
     };
+
+    /// Of these parts.
+    #[inline]
+    pub(crate) fn of(classes: i128, spread: i128) -> Worth {
+        Worth { classes, spread }
+    }
 
     /// The sum.
     #[inline]
@@ -117,7 +129,34 @@ fn gained(class: u32, piece: i128, tenths: bool) -> Worth {
     }
 }
 
+/// The same in a number alone, `Worth::classes`: the spread stands in its lower half. A class has so few bits that 64
+/// dekatherms of a later one outweigh it, which a way through the tree seldom comes to; and nothing outgrows its half.
+fn short_gained(class: u32, piece: i128, tenths: bool) -> Worth {
+    if class == 0 {
+        let bound = 1i128.wrapping_shl(HALF + u32::from(Class::MAX) * SHORT_BITS);
+        return Worth::of(bound.wrapping_mul(1i128.wrapping_sub(piece)), 0);
+    }
+    let later = u32::from(Class::MAX).wrapping_sub(class);
+    let unit = 1i128.wrapping_shl(later.wrapping_mul(SHORT_BITS));
+    let weight = if tenths { piece } else { 0 };
+    let classes = unit
+        .wrapping_shl(HALF)
+        .wrapping_sub(unit.wrapping_mul(weight));
+    Worth::of(classes, 0)
+}
+
 impl Gains {
+    /// The table of what the pieces gain in short.
+    pub(crate) fn short(alloc: Global, tenths: bool) -> Result<Gains, AllocError> {
+        let mut worths = Vec::with_capacity(alloc, CLASSES * PIECES)?;
+        for entry in 0..CLASSES * PIECES {
+            let class = (entry / PIECES) as u32;
+            let piece = (entry % PIECES) as i128;
+            worths.push(short_gained(class, piece, tenths))?;
+        }
+        Ok(Gains { worths })
+    }
+
     /// The table of what the pieces gain.
     pub fn of(alloc: Global, tenths: bool) -> Result<Gains, AllocError> {
         let mut worths = Vec::with_capacity(alloc, CLASSES * PIECES)?;
@@ -127,6 +166,12 @@ impl Gains {
             worths.push(gained(class, piece, tenths))?;
         }
         Ok(Gains { worths })
+    }
+
+    /// What a dekatherm gains in a piece of an arc of this class, by classes.
+    #[inline]
+    pub(crate) fn classes(&self, class: u8, piece: u8) -> i128 {
+        self.gain(class, piece).classes
     }
 
     /// What a dekatherm gains in a piece of an arc of this class.

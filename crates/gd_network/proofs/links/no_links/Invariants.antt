@@ -4,4 +4,4 @@ use Rattle.gd_network.specs.Links.{lists}
 use Rattle.gd_network.proofs.links.no_links.Given as goal
 
 abbrev pub invariant-loop-node : goal.invariant-loop-node
-invariant-loop-node l = lists l.links.items ≡ replicate l._node []
+invariant-loop-node l = lists l.links.items ≡ replicate l.node []

@@ -2,7 +2,7 @@ use Rattle.std.proofs.Common.{length, map, ap}
 use Rattle.gd_network.specs.Arcs.{from_at, to_at}
 use Rattle.gd_mincost.specs.Settling.{potential}
 use Rattle.gd_mincost.proofs.PotentialTests.{from_is, to_is, in_nodes, at_most_same}
-use Rattle.gd_mincost.proofs.still.is_still_along.Goals as goal
+use Rattle.gd_mincost.proofs.still.gains_none_along.Goals as goal
 
 pub raises_none-requires-clause-from : goal.raises_none-requires-clause-from
 raises_none-requires-clause-from g c =
@@ -15,7 +15,7 @@ raises_none-requires-clause-to g c =
     c.requires.nodes (c.known.ensures.sound.to c.args.number c.requires.arc)
 
 pub returns : goal.returns
-returns g c = λ is gain are room.
+returns g c = λ is gain are.
     let s = g.C.Cost.scale in
     let n = c.args.network.now.arcs in
     let k = c.args.number in

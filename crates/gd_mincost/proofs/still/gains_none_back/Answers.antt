@@ -4,7 +4,7 @@ use Rattle.gd_network.specs.Arcs.{from_at, to_at}
 use Rattle.gd_mincost.specs.Settling.{potential}
 use Rattle.gd_mincost.proofs.Links.{fits_large}
 use Rattle.gd_mincost.proofs.PotentialTests.{from_is, to_is, in_nodes, at_most_same, turned}
-use Rattle.gd_mincost.proofs.still.is_still_back.Goals as goal
+use Rattle.gd_mincost.proofs.still.gains_none_back.Goals as goal
 
 pub raises_none-requires-clause-from : goal.raises_none-requires-clause-from
 raises_none-requires-clause-from g c =
@@ -23,7 +23,7 @@ raises_none-requires-clause-gain g c =
     (subst (λ x. IsTrue (g.C.Cost.within (pos 16) x)) (sym (turned g.C.Cost.scale g.met.C.Cost.lawful (g.C.Cost.meaning c.zero.result) (g.C.Cost.meaning c.gain_of-gain.result) (g.C.Cost.meaning c.sub-turned.result) c.zero.ensures c.sub-turned.ensures)) (b.minus (pos 16) (g.C.Cost.meaning c.gain_of-gain.result) c.gain_of-gain.ensures.small))
 
 pub returns : goal.returns
-returns g c = λ is gain are room.
+returns g c = λ is gain are.
     let s = g.C.Cost.scale in
     let n = c.args.network.now.arcs in
     let k = c.args.number in
