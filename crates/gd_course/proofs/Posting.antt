@@ -12,7 +12,7 @@ use Rattle.gd_machine.specs.History.{History}
 use Rattle.gd_machine.specs.Steps.{Step}
 use Rattle.gd_book.specs.Postings.{AllPosted, Posts}
 use Rattle.gd_book.proofs.Posting.{all_more, same_stays}
-use Rattle.gd_replies.specs.declared.call.Call.{Call}
+use Rattle.gd_machine.specs.declared.call.Call.{Call}
 use Rattle.gd_replies.specs.declared.reply.Reply.{Reply}
 use Rattle.gd_text_part.specs.declared.row.Row.{Row}
 use Rattle.gd_course.specs.Course.{Declares}

@@ -16,8 +16,8 @@ use Rattle.gd_machine.specs.History.{History, is_frozen}
 use Rattle.gd_machine.specs.Asking.{question}
 use Rattle.gd_machine.specs.Steps.{Step}
 use Rattle.gd_replies.specs.Days.{TellsUncertified}
-use Rattle.gd_replies.specs.declared.call.Call.{Call}
-use Rattle.gd_replies.specs.declared.call.Call.TheVariants as call
+use Rattle.gd_machine.specs.declared.call.Call.{Call}
+use Rattle.gd_machine.specs.declared.call.Call.TheVariants as call
 use Rattle.gd_replies.specs.declared.reply.Reply.{Reply}
 use Rattle.gd_course.specs.CallRows.{Steps, IsTold, answer_rows}
 use Rattle.gd_course.specs.Course.{Tariffs, certificate_of, PublishesFrozen, Settles}

@@ -11,7 +11,7 @@ use Rattle.gd_machine.specs.History.{History}
 use Rattle.gd_machine.specs.Asking.{question}
 use Rattle.gd_machine.specs.Steps.{Step}
 use Rattle.gd_replies.specs.Days.{frozen_rows, published_rows, declared_rows}
-use Rattle.gd_replies.specs.declared.call.Call.{Call}
+use Rattle.gd_machine.specs.declared.call.Call.{Call}
 use Rattle.gd_replies.specs.declared.reply.Reply.{Reply}
 use Rattle.gd_replies.specs.declared.reply.Reply.TheVariants as reply
 

@@ -16,7 +16,7 @@ use Rattle.gd_machine.specs.History.{History, is_frozen, round_of}
 use Rattle.gd_machine.specs.Asking.{question}
 use Rattle.gd_machine.specs.Headline.{Holds}
 use Rattle.gd_replies.specs.Days.{TellsUncertified}
-use Rattle.gd_replies.specs.declared.call.Call.TheVariants as call
+use Rattle.gd_machine.specs.declared.call.Call.TheVariants as call
 use Rattle.gd_replies.specs.declared.reply.Reply.{Reply}
 use Rattle.gd_replies.specs.declared.reply.Reply.TheVariants as reply
 use Rattle.gd_text_part.specs.declared.row.EventRow.{EventRow}

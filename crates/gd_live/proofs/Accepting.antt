@@ -25,8 +25,8 @@ use Rattle.gd_text_part.specs.declared.row.EventRow.TheVariants as row
 use Rattle.gd_text_part.specs.declared.row.Row.{Row}
 use Rattle.gd_text.specs.Members.{members_of}
 use Rattle.gd_day.specs.Groups.{Passes}
-use Rattle.gd_replies.specs.declared.call.Call.{Call}
-use Rattle.gd_replies.specs.declared.call.Call.TheVariants as call
+use Rattle.gd_machine.specs.declared.call.Call.{Call}
+use Rattle.gd_machine.specs.declared.call.Call.TheVariants as call
 use Rattle.gd_replies.specs.declared.reply.Reply.{Reply}
 use Rattle.gd_course.specs.CallRows.{Steps, accepted_rows}
 use Rattle.gd_course.specs.Course.{Tariffs, Offers, certificate_of}

@@ -23,7 +23,7 @@ use Rattle.gd_day.specs.Opening.{Opened}
 use Rattle.gd_machine.specs.Day.{Day}
 use Rattle.gd_machine.specs.declared.refusal.Refusal.TheVariants as refusal
 use Rattle.gd_replies.specs.Lines.{lines_of}
-use Rattle.gd_replies.specs.declared.call.Call.TheVariants as call
+use Rattle.gd_machine.specs.declared.call.Call.TheVariants as call
 use Rattle.gd_replies.specs.declared.reply.Reply.{Reply}
 use Rattle.gd_replies.specs.declared.reply.Reply.TheVariants as reply
 use Rattle.gd_live.specs.Kept.{AreCalls}

@@ -6,14 +6,16 @@
 //! seconds since 1970-01-01T00:00:00Z.
 #![tactic(auto)]
 
+mod call;
 mod event;
 mod laws;
 mod refusal;
 mod reply;
 
+pub use call::Call;
 pub use event::Event;
 pub use laws::{every_day_holds, every_day_is_sound};
-pub use refusal::Refusal;
+pub use refusal::{Refusal, refusal_number};
 pub use reply::Reply;
 
 /// How many events a book may have (own limit).

@@ -1,9 +1,10 @@
 //! Why a book refuses.
 
 ghost use Rattle.std.specs.Prelude.{◌≡◌, Some};
-ghost use Rattle.gd_machine.specs.Names.{refusal_name};
+ghost use Rattle.gd_machine.specs.Names.{refusal_name, refusal_number};
 ghost use Rattle.gd_machine.specs.declared.refusal.Refusal.TheVariants.{OutOfMemory};
 
+use crate::call::Call;
 use gd_certificate::CutFault;
 use gd_system::RouteFault;
 use std::alloc::AllocError;
@@ -92,5 +93,36 @@ impl fmt::Display for Refusal {
             Refusal::OutOfMemory => f.write_str("OutOfMemory"),
             Refusal::BoardTaken => f.write_str("BoardTaken"),
         }
+    }
+}
+
+/// The number of a refusal in the order of its call's refusals, from 1.
+pub fn refusal_number(call: Call, refusal: Refusal) -> u8
+    ensures { result ≡ refusal_number call refusal }
+{
+    match refusal {
+        Refusal::DayClosed | Refusal::AllSettled | Refusal::NotFrozen => 1,
+        Refusal::UnknownContract | Refusal::Frozen | Refusal::StaleRound(_) => 2,
+        Refusal::NotShipper
+        | Refusal::UnknownElement
+        | Refusal::TooEarly
+        | Refusal::OtherQuestion
+        | Refusal::NoCutProof(_)
+        | Refusal::NoCut => 3,
+        Refusal::UnknownLine if call == Call::Waive => 4,
+        Refusal::UnknownLine => 3,
+        Refusal::NotOperator | Refusal::IsPool | Refusal::Route(RouteFault::UnknownEnd) => 4,
+        Refusal::Route(RouteFault::WrongEnd) => 5,
+        Refusal::Route(RouteFault::SameEnd) => 6,
+        Refusal::Route(_) => 7,
+        Refusal::OverContract => 8,
+        Refusal::TooManyLines => 9,
+        Refusal::TooManyEvents => match call {
+            Call::Nominate => 10,
+            Call::Respond | Call::Post | Call::Waive => 5,
+            _ => 4,
+        },
+        Refusal::OutOfMemory => 5,
+        Refusal::BoardTaken => 6,
     }
 }

@@ -6,8 +6,8 @@ use Rattle.gd_machine.specs.declared.reply.Reply.TheVariants as book
 use Rattle.gd_office_part.specs.declared.kept.Receipt.{Receipt}
 use Rattle.gd_office_part.specs.declared.kept.Told.{Told}
 use Rattle.gd_office_part.specs.declared.kept.Told.TheVariants as told
-use Rattle.gd_replies.specs.declared.call.Call.{Call}
-use Rattle.gd_replies.specs.declared.call.Call.TheVariants as call
+use Rattle.gd_machine.specs.declared.call.Call.{Call}
+use Rattle.gd_machine.specs.declared.call.Call.TheVariants as call
 use Rattle.gd_replies.specs.declared.reply.Reply.{Reply}
 use Rattle.gd_replies.specs.declared.reply.Reply.TheVariants as reply
 

@@ -1,5 +1,4 @@
 pub mod Calendars
-pub mod Calls
 pub mod Days
 pub mod Lines
 pub mod Replies

@@ -4,10 +4,11 @@ use Rattle.std.specs.Prelude.{List, [], ◌∷◌, ◌++◌, length, replicate}
 use Rattle.std.specs.List.{flat_map, join_with_byte}
 use Rattle.std.specs.Fmt.{decimal, signed_decimal}
 use Rattle.hex.specs.Hex.{encode_lower}
-use Rattle.gd_certificate.specs.Names.{cert_fault_name}
+use Rattle.gd_certificate.specs.Names.{cert_fault_name, cut_fault_name}
 use Rattle.gd_certificate.specs.declared.CertFault.{CertFault}
-use Rattle.gd_machine.specs.Names.{refusal_name}
-use Rattle.gd_replies.specs.Calls.{call_name, refusal_number, refusal_detail}
+use Rattle.gd_machine.specs.Names.{call_name, refusal_name, refusal_number}
+use Rattle.gd_machine.specs.declared.refusal.Refusal.{Refusal}
+use Rattle.gd_machine.specs.declared.refusal.Refusal.TheVariants as refusal
 use Rattle.gd_text_part.specs.Causes.{fault_row, fault_name, fault_detail}
 use Rattle.gd_text_part.specs.declared.row.TheConstants.{FIELD_COUNT}
 use Rattle.gd_text_part.specs.declared.row.Member.{Member}
@@ -22,6 +23,12 @@ whole fields = fields ++ replicate (FIELD_COUNT - length fields) []
 -- the fields with commas between, and a line feed
 abbrev pub line : List (List ℕ) → List ℕ
 line fields = join_with_byte 44 (whole fields) ++ 10 ∷ []
+
+-- what is told beside a refusal: the current round, or why a set is no cut
+abbrev pub refusal_detail : Refusal → List ℕ
+refusal_detail (refusal.StaleRound round) = decimal round
+refusal_detail (refusal.NoCutProof fault) = cut_fault_name fault
+refusal_detail r = []
 
 abbrev pub member_name : Member → List ℕ
 member_name member.Place = codes "place"

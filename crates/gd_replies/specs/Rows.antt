@@ -3,10 +3,9 @@ use Rattle.std.specs.Prelude.{ℕ, codes, List, [], ◌∷◌}
 use Rattle.std.specs.Fmt.{decimal, signed_decimal}
 use Rattle.hex.specs.Hex.{encode_lower}
 use Rattle.gd_certificate.specs.Names.{cert_fault_name}
-use Rattle.gd_machine.specs.Names.{refusal_name}
+use Rattle.gd_machine.specs.Names.{call_name, refusal_name}
 use Rattle.gd_text_part.specs.Causes.{fault_row, fault_name, fault_detail}
-use Rattle.gd_replies.specs.Calls.{call_name, refusal_detail}
-use Rattle.gd_replies.specs.Lines.{spread_field}
+use Rattle.gd_replies.specs.Lines.{refusal_detail, spread_field}
 use Rattle.gd_replies.specs.declared.row.AllFields.{AllFields}
 use Rattle.gd_replies.specs.declared.row.Field.{Field}
 use Rattle.gd_replies.specs.declared.row.Field.TheVariants as field

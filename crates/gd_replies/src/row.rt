@@ -2,13 +2,11 @@
 
 ghost use Rattle.std.specs.Prelude.{Some};
 ghost use Rattle.hex.specs.Hex.{encode_lower};
-ghost use Rattle.gd_replies.specs.Calls.{refusal_detail};
-ghost use Rattle.gd_replies.specs.Lines.{line, spread_field};
+ghost use Rattle.gd_replies.specs.Lines.{line, refusal_detail, spread_field};
 ghost use Rattle.gd_replies.specs.Rows.{all_fields, field_text, row_fields};
 
-use crate::call::Call;
 use gd_certificate::CertFault;
-use gd_machine::Refusal;
+use gd_machine::{Call, Refusal};
 use gd_text_part::TextFault;
 use gd_units::Name;
 use hex::encode_to_slice;

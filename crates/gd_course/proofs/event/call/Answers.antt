@@ -1,7 +1,7 @@
 use Rattle.std.proofs.Common.{◌-◌}
 use Rattle.gd_day.specs.ElementNames as named
 use Rattle.gd_machine.specs.declared.event.Event.TheVariants as event
-use Rattle.gd_replies.specs.declared.call.Call.TheVariants as call
+use Rattle.gd_machine.specs.declared.call.Call.TheVariants as call
 use Rattle.gd_course.proofs.Posting.{declared, told}
 use Rattle.gd_course.proofs.event.call.Goals as goal
 

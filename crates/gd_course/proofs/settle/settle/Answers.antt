@@ -1,5 +1,5 @@
 use Rattle.gd_machine.specs.declared.event.Event.TheVariants as event
-use Rattle.gd_replies.specs.declared.call.Call.TheVariants as call
+use Rattle.gd_machine.specs.declared.call.Call.TheVariants as call
 use Rattle.gd_course.proofs.Posting.{told}
 use Rattle.gd_course.proofs.settle.settle.Goals as goal
 
