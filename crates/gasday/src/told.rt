@@ -229,19 +229,21 @@ fn tell_late(rt: &HostRuntime, summary: &Summary) {
     }
 }
 
-/// How the text of an order is read. Who audits or migrates an archive reads none, and that of an answer's check is read in parts.
-fn form_of(order: Order<'_>) -> Option<Form> {
+/// Whose text an order reads, by the words of the command, and how. Who audits or migrates an archive reads none, and that of an
+/// answer's check is read in parts.
+fn reading_of(order: Order<'_>) -> Option<(&'static str, Form)> {
     match order {
-        Order::Text(Command::CheckAllowed) => Some(Form::CheckAllowed),
-        Order::Text(Command::CheckBest) => Some(Form::CheckBest),
-        Order::Text(Command::CheckCut) => Some(Form::CheckCut),
-        Order::Text(Command::Solve) => Some(Form::Solve),
-        Order::Text(Command::Calendar) => Some(Form::Calendar),
+        Order::Text(Command::CheckAllowed) => Some(("check allowed", Form::CheckAllowed)),
+        Order::Text(Command::CheckBest) => Some(("check best", Form::CheckBest)),
+        Order::Text(Command::CheckCut) => Some(("check cut", Form::CheckCut)),
+        Order::Text(Command::Solve) => Some(("solve", Form::Solve)),
+        Order::Text(Command::Calendar) => Some(("calendar", Form::Calendar)),
         Order::Text(Command::Day | Command::StrictDay)
         | Order::ArchivedDay { .. }
-        | Order::LiveDay(_) => Some(Form::Day),
-        Order::Office { .. } => Some(Form::Office),
-        Order::Question { .. } | Order::Carry(_) => Some(Form::Day),
+        | Order::LiveDay(_)
+        | Order::Question { .. }
+        | Order::Carry(_) => Some(("day", Form::Day)),
+        Order::Office { .. } => Some(("office", Form::Office)),
         Order::CheckAnswer
         | Order::Audit(_)
         | Order::AuditEach(_)
@@ -262,9 +264,14 @@ pub(crate) fn tell_waiting(rt: &HostRuntime) {
 
 /// Tells why an answer isn't good, which ends with this row.
 pub(crate) fn tell_why(rt: &HostRuntime, order: Order<'_>, text: &Text<'_>, last: &Reply) {
+    let (command, form) = match reading_of(order) {
+        Some((command, form)) => (command, Some(form)),
+        None => ("", None),
+    };
     let source = Source {
         alloc: rt.alloc(),
-        form: form_of(order),
+        command,
+        form,
         bytes: text.bytes.as_slice(),
         parts: text.parts.as_slice(),
     };

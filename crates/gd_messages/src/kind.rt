@@ -44,20 +44,6 @@ pub(crate) fn kind_of(field: &[u8]) -> Option<RowKind> {
     None
 }
 
-/// The words of the command that reads a text.
-pub(crate) fn command_of(form: Form) -> &'static str {
-    match form {
-        Form::CheckAllowed => "check allowed",
-        Form::CheckBest => "check best",
-        Form::CheckCut => "check cut",
-        Form::Solve => "solve",
-        Form::Calendar => "calendar",
-        Form::Day => "day",
-        Form::Office => "office",
-        Form::Body => "audit",
-    }
-}
-
 /// The order in which the rows of a command's text stand, in words.
 pub(crate) fn order_of(form: Form) -> &'static str {
     match form {

@@ -1,6 +1,6 @@
 //! What is told of rows that stand where they may not, and of rows that are missing or too many.
 
-use crate::kind::{command_of, order_of};
+use crate::kind::order_of;
 use crate::text::Spot;
 use gd_text_part::Form;
 use std::alloc::AllocError;
@@ -12,7 +12,7 @@ pub(crate) fn told_of_order(spot: Spot) -> Result<String, AllocError> {
     let Some(form) = spot.source.form else {
         return format!(in alloc; "{place}: this {word} row can't stand here");
     };
-    let (command, order) = (command_of(form), order_of(form));
+    let (command, order) = (spot.source.command, order_of(form));
     format!(in alloc;
         "{place}: this {word} row can't stand here; in a text of gasday {command} {order}"
     )

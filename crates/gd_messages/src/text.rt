@@ -16,6 +16,8 @@ pub struct Part<'t> {
 #[derive(Clone, Copy)]
 pub struct Source<'t> {
     pub alloc: Global,
+    /// The words of the command whose text it is, behind `gasday`; nothing where it reads none.
+    pub command: &'t str,
     /// By which form it was read; `None` where the command reads no text.
     pub form: Option<Form>,
     /// The bytes, none where they could not be read.
