@@ -1,8 +1,8 @@
 //! An answer from its rows to the bytes of a writer.
 
-ghost use Rattle.std.specs.Prelude.{◌≡◌, ◌≤◌, ℕ, [], ◌∷◌, ◌++◌, IfOk, length, take};
+ghost use Rattle.std.specs.Prelude.{◌≡◌, ◌≤◌, ℕ, [], ◌∷◌, ◌++◌, IfOk, OnOk, length, string_bytes, take};
 ghost use Rattle.std.specs.Io.KnownBytes.{Appends};
-ghost use Rattle.gd_replies.specs.Lines.{lines_of};
+ghost use Rattle.gd_replies.specs.Lines.{line_of, lines_of};
 ghost use Rattle.gasday_part.specs.AnswerSeen.{answer_seen, last_row};
 ghost use Rattle.gasday_part.specs.Answers.{Told, no_memory};
 ghost use Rattle.gasday_part.specs.Output.{Written};
@@ -13,14 +13,23 @@ use gd_text_part::write_bytes;
 use std::alloc::{AllocError, Global};
 use std::io::Write;
 
+/// Puts a row into a text, in place of what it had.
+fn print(line: &mut String, reply: &Reply) -> Result<(), AllocError>
+    ensures { OnOk result (string_bytes line.new ≡ line_of reply.now) }
+{
+    line.clear();
+    write!(line, "{reply}")
+}
+
 /// Prints replies in order, and behind them that memory ran out, where it did. Answers the status, or 2 where not all was
 /// written.
 fn tell<W: Write>(alloc: Global, writer: &mut W, replies: &[Reply], short: bool, status: u8) -> u8
     ensures { Written (W.contents writer.old) (W.contents writer.new) result
         (record { replies = replies.now ++ last_row short; status = status }) }
 {
+    let mut line = String::new(alloc);
     'replies: for reply in replies {
-        let Ok(line) = reply.to_string(alloc) else {
+        let Ok(()) = print(&mut line, reply) else {
             return tell_no_memory(writer);
         };
         if write_bytes(writer, line.as_bytes()).is_err() {

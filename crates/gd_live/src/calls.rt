@@ -1,6 +1,6 @@
 //! What a call gave is kept and told.
 
-ghost use Rattle.std.specs.Prelude.{◌≡◌, ◌++◌, ◌∷◌, [], OnOk};
+ghost use Rattle.std.specs.Prelude.{◌≡◌, ◌++◌, ◌∷◌, [], OnOk, string_bytes};
 ghost use Rattle.gd_replies.specs.Lines.{lines_of};
 ghost use Rattle.gd_live.specs.Stands.{with_line};
 ghost use Rattle.gd_live.specs.Lines.{only_told, kept_and_told};
@@ -12,13 +12,15 @@ use gd_replies::Reply;
 use gd_serving::Given;
 use std::alloc::{AllocError, Global};
 
-/// Appends the bytes of rows that are told.
-fn print(alloc: Global, bytes: &mut Vec<u8>, told: &[Reply]) -> Result<(), AllocError>
-    ensures { OnOk result (bytes.new.items ≡ bytes.old.items ++ lines_of told.now) }
+/// How many bytes most calls are told.
+const USUAL: usize = 64;
+
+/// Appends rows that are told.
+fn print(text: &mut String, told: &[Reply]) -> Result<(), AllocError>
+    ensures { OnOk result (string_bytes text.new ≡ string_bytes text.old ++ lines_of told.now) }
 {
     'told: for reply in told {
-        let line = reply.to_string(alloc)?;
-        bytes.extend_from_slice(line.as_bytes())?;
+        write!(text, "{reply}")?;
     }
     Ok(())
 }
@@ -27,7 +29,9 @@ fn print(alloc: Global, bytes: &mut Vec<u8>, told: &[Reply]) -> Result<(), Alloc
 pub(crate) fn tell(alloc: Global, told: Reply, given: &mut Given) -> Result<(), AllocError>
     ensures { OnOk result (Adds (seen given.old) (seen given.new) (only_told (told ∷ []))) }
 {
-    print(alloc, &mut given.told, &[told])
+    let mut row = String::with_capacity(alloc, USUAL)?;
+    print(&mut row, &[told])?;
+    given.told.extend_from_slice(row.as_bytes())
 }
 
 /// Keeps the rows of a group and the line of the call behind it, with these bytes of replies.
@@ -58,11 +62,11 @@ pub(crate) fn keep(
     ensures { OnOk result (Adds (seen given.old) (seen given.new)
         (kept_and_told (with_line group.now line.now) told.items)) }
 {
-    let mut printed = Vec::new(alloc);
-    let made = print(alloc, &mut printed, told.as_slice());
+    let mut printed = String::with_capacity(alloc, USUAL)?;
+    let made = print(&mut printed, told.as_slice());
     drop(told);
     made?;
-    keep_replies(group, line, printed.as_slice(), given)?;
-    given.told.extend_from_slice(printed.as_slice())?;
+    keep_replies(group, line, printed.as_bytes(), given)?;
+    given.told.extend_from_slice(printed.as_bytes())?;
     Ok(())
 }

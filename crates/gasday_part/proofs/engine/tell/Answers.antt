@@ -12,7 +12,7 @@ returns-in_default g c =
 pub returns-then-is_err : goal.returns-then-is_err
 returns-then-is_err g c =
     let some = c.write_bytes.ensures.front in
-    let bytes : c.as_bytes.result.now ≡ line_of c.reply-item.result = c.as_bytes.ensures.value ∙ c.in-Ok.ensures.ok in
+    let bytes : c.as_bytes.result.now ≡ line_of c.reply-item.result = c.as_bytes.ensures.value ∙ c.in-Ok.ensures in
     stops_short _ _ _ c.args.replies.now (last_row c.args.short) c.args.status c.replies.reply-index some.0 c.reply-item.result (omega arith) c.reply-item.is (rw bytes at some.1) c.replies.invariant (rw bytes at some.2)
 
 pub returns-then-short : goal.returns-then-short
