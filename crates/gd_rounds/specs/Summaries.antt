@@ -1,5 +1,5 @@
 -- What a gas day came to, by the history of its book and by the rows that told of its calls.
-use Rattle.std.specs.Prelude.{ℕ, ◌-◌, ◌==◌, ◌&&◌, max, Bool, true, false, nat_le, List, filter, fold, length}
+use Rattle.std.specs.Prelude.{ℕ, ◌+◌, ◌-◌, ◌^◌, ◌==◌, ◌&&◌, max, min, Bool, true, false, nat_le, List, filter, fold, length}
 use Rattle.gd_rules.specs.GasDay.Mark.{Effective}
 use Rattle.gd_rules.specs.Limits.{cycles}
 use Rattle.gd_calendar.specs.Calendar.{due, finish}
@@ -84,6 +84,22 @@ summary_of moments h rows = record {
   late = count counted.Late moments h;
   beyond = count counted.Beyond moments h;
   refused = refused rows;
+}
+
+-- the sum of two numbers, or the greatest number where it is above that
+abbrev pub sum : ℕ → ℕ → ℕ
+sum a b = min (a + b) (2 ^ 64 - 1)
+
+-- what two gas days came to together
+abbrev pub both : Summary → Summary → Summary
+both a b = record {
+  published = sum a.published b.published;
+  declared = sum a.declared b.declared;
+  skipped = sum a.skipped b.skipped;
+  unreached = sum a.unreached b.unreached;
+  late = sum a.late b.late;
+  beyond = sum a.beyond b.beyond;
+  refused = sum a.refused b.refused;
 }
 
 -- No call was refused, no question was shown to have no allowed schedule, and no freeze and no call came too late.

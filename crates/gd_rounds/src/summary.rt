@@ -43,8 +43,10 @@ impl Summary {
         }
     }
 
-    /// What two gas days came to together. Nothing is promised of it: it is told to people alone.
-    pub fn and(self, other: Summary) -> Summary {
+    /// What two gas days came to together. A number that would be above the greatest one is that one.
+    pub fn and(self, other: Summary) -> Summary
+        ensures { result ≡ spec.both self other }
+    {
         Summary {
             published: self.published.saturating_add(other.published),
             declared: self.declared.saturating_add(other.declared),
