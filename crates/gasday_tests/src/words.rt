@@ -1,18 +1,18 @@
 //! Which words are taken, and what the texts say.
 
-use gasday_words::{Command, Order, Request, UsageFault, request_of};
-use std::alloc::AllocError;
+use gasday_words::{Order, Request, UsageFault, request_of};
+use std::alloc::{AllocError, Global};
 use std::test::Fail;
 
 const LINES: [(&[&str], &str); 64] = [
-    (&[], "allowed"),
-    (&["gasday"], "allowed"),
-    (&["gasday", "check", "allowed"], "allowed"),
-    (&["out/another-name", "check", "allowed"], "allowed"),
-    (&["gasday", "check", "best"], "best"),
-    (&["gasday", "check", "cut"], "cut"),
-    (&["gasday", "solve"], "solve"),
-    (&["gasday", "calendar"], "calendar"),
+    (&[], "CheckAllowed"),
+    (&["gasday"], "CheckAllowed"),
+    (&["gasday", "check", "allowed"], "CheckAllowed"),
+    (&["out/another-name", "check", "allowed"], "CheckAllowed"),
+    (&["gasday", "check", "best"], "CheckBest"),
+    (&["gasday", "check", "cut"], "CheckCut"),
+    (&["gasday", "solve"], "Solve"),
+    (&["gasday", "calendar"], "Calendar"),
     (&["gasday", "--help"], "help"),
     (&["gasday", "-h"], "help"),
     (&["gasday", "help"], "help"),
@@ -24,16 +24,16 @@ const LINES: [(&[&str], &str); 64] = [
     (&["gasday", "check", "--help"], "help"),
     (&["gasday", "solve", "--help"], "help of solve"),
     (&["gasday", "calendar", "--help"], "help of calendar"),
-    (&["gasday", "solve", "best"], "solve of best"),
+    (&["gasday", "solve", "best"], "Solve of best"),
     (&["gasday", "solve", "--nonsense"], "usage"),
     (&["gasday", "check", "solve"], "usage"),
     (&["gasday", "Solve"], "usage"),
     (
         &["gasday", "calendar", "a.csv", "b.csv"],
-        "calendar of a.csv and b.csv",
+        "Calendar of a.csv and b.csv",
     ),
     (&["gasday", "check", "calendar"], "usage"),
-    (&["gasday", "day"], "day"),
+    (&["gasday", "day"], "Day"),
     (&["gasday", "day", "--help"], "help of day"),
     (&["gasday", "office"], "office"),
     (&["gasday", "office", "--help"], "help of office"),
@@ -61,7 +61,7 @@ const LINES: [(&[&str], &str); 64] = [
     (&["gasday", "migrate", "--help"], "help of migrate"),
     (&["gasday", "text", "--help"], "help of text"),
     (&["gasday", "office", "--archive", "a.db"], "usage"),
-    (&["gasday", "day", "--strict"], "strict day"),
+    (&["gasday", "day", "--strict"], "StrictDay"),
     (&["gasday", "day", "--strict", "--book", "a.db"], "usage"),
     (
         &["gasday", "day", "--strict", "--archive", "a.db"],
@@ -76,7 +76,7 @@ const LINES: [(&[&str], &str); 64] = [
     (&["gasday", "check", "all"], "usage"),
     (
         &["gasday", "check", "allowed", "allowed"],
-        "allowed of allowed",
+        "CheckAllowed of allowed",
     ),
     (
         &["gasday", "check", "q.csv", "a.csv"],
@@ -89,22 +89,10 @@ const LINES: [(&[&str], &str); 64] = [
     (&["gasday", "check", "allowed", "--nonsense"], "usage"),
 ];
 
-fn command_name(command: Command) -> &'static str {
-    match command {
-        Command::CheckAllowed => "allowed",
-        Command::CheckBest => "best",
-        Command::CheckCut => "cut",
-        Command::Solve => "solve",
-        Command::Calendar => "calendar",
-        Command::Day => "day",
-        Command::StrictDay => "strict day",
-    }
-}
-
 /// The name of an order on the file a.db, and else nothing.
-fn order_name(order: Order<'_>) -> &'static str {
-    match order {
-        Order::Text(command) => command_name(command),
+fn order_name(alloc: Global, order: Order<'_>) -> Result<String, AllocError> {
+    let name = match order {
+        Order::Text(command) => return format!(in alloc; "{command:?}"),
         Order::CheckAnswer => "answer",
         Order::Office { is_strict: false } => "office",
         Order::Office { is_strict: true } => "strict office",
@@ -128,14 +116,15 @@ fn order_name(order: Order<'_>) -> &'static str {
         Order::AuditEach("a.db") => "audit of each",
         Order::Migrate("a.db") => "migrate",
         _ => "another file",
-    }
+    };
+    String::from_str(alloc, name)
 }
 
 /// An order and the files that it reads, in words.
 fn request_name(rt: &HostRuntime, request: &Request<'_>) -> Result<String, AllocError> {
-    let order = order_name(request.order);
+    let order = order_name(rt.alloc(), request.order)?;
     match request.texts.as_slice() {
-        [] => String::from_str(rt.alloc(), order),
+        [] => Ok(order),
         [text] => format!(in rt.alloc(); "{order} of {text}"),
         [text, another] => format!(in rt.alloc(); "{order} of {text} and {another}"),
         _ => format!(in rt.alloc(); "{order} of many"),
