@@ -67,7 +67,7 @@ _gasday() {
             _gasday_words '--wait --help'
             _gasday_files
             ;;
-        question:3) _gasday_words '1 2 3 4 5 --help' ;;
+        question:3) [ "${COMP_WORDS[2]}" = --wait ] || _gasday_words '1 2 3 4 5 --help' ;;
         question:4) [ "${COMP_WORDS[2]}" = --wait ] && _gasday_files ;;
         question:5) [ "${COMP_WORDS[2]}" = --wait ] && _gasday_words '1 2 3 4 5' ;;
         carry:2)

@@ -67,19 +67,14 @@ WORD = re.compile(r"[^\s(){};,]+")
 TYPE = re.compile(r"^(?:pub(?:\(crate\))? )?(?:struct|enum|trait|type) (\w+)", re.M)
 IMPORT = re.compile(r"^use ([\w:]+?)(?:::\{([^}]*)\}|::(\w+));", re.M)
 GHOSTS = ("Value", "view")
-VARIANT = re.compile(r"^    (\w+),$", re.M)
-CHOICE = re.compile(r"\b(?:command|form)\.(\w+)")
+FORM = re.compile(r"^form_of (command\.\w+) = (form\.\w+)$", re.M)
+CHOICE = re.compile(r"\b(?:command|form)\.\w+")
 
 
-def variants(place, name):
-    """The plain variants of an enum, in their order."""
-    return VARIANT.findall((CRATES / place).read_text().partition(f"\npub enum {name} {{\n")[2].partition("\n}")[0])
-
-
-def commands():
-    """The names of the commands that have a form of text of the same name: with these `--list` and `--read` may be called."""
-    forms = variants("gd_text_part/src/kind.rt", "Form")
-    return [name for name in variants("gasday_words/src/order.rt", "Command") if name in forms]
+@cache
+def forms():
+    """The form of text that each command reads: with the names of these commands `--list` and `--read` may be called."""
+    return dict(FORM.findall((CRATES / "gasday_part/specs/Answers.antt").read_text()))
 
 
 def words_of(text):
@@ -216,7 +211,8 @@ class Reached:
     """What is reached: definitions by file, types of the program and modules of the kit by crate."""
 
     def __init__(self, commands=()):
-        self.commands, self.sources = set(commands), Sources()
+        chosen = {f"command.{name}" for name in commands}
+        self.commands, self.sources = chosen | {forms()[command] for command in chosen}, Sources()
         self.files, self.kit, self.types = defaultdict(set), defaultdict(set), defaultdict(set)
         self.missing = set()
 
@@ -276,7 +272,7 @@ class Reached:
                 self.definition(path, other, (path, name))
 
     def counts(self, line):
-        """Whether a line is of one of the commands asked for."""
+        """Whether a line is of one of the commands asked for, or of the form of its text."""
         chosen = CHOICE.findall(line.split(" = ")[0]) if self.commands and " = " in line else []
         return not chosen or bool(self.commands & set(chosen))
 
@@ -434,7 +430,7 @@ def listed(words):
         return whole()
     if len(words) == 1 and words[0] in named:
         return reach(*named[words[0]])
-    return reach((ANSWER, WRITE), words) if set(words) <= set(commands()) else None
+    return reach((ANSWER, WRITE), words) if {f"command.{word}" for word in words} <= set(forms()) else None
 
 
 class Recount:

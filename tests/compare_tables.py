@@ -7,12 +7,13 @@ Holds what users are told of rows, faults, refusals, limits and commands against
   messages, and each kind of row that it prints (`gd_replies`: Lines) stands in DEFINITIONS and in a help;
 - the fields that messages know of each kind are as many as its form in the help has (`crates/gd_messages/src/field.rt`);
 - the refusals of each call stand in the help in the order of the machine's tests (`Machine.tests_of`), and are numbered in that
-  order (`gd_replies`: Calls.refusal_number);
+  order (`gd_machine`: Names.refusal_number);
 - each refusal, each cause of a text's fault and each finding of a check that the program can print has a meaning in the help;
-- the calls of a book (`gd_replies`: Calls.call_name) and the rows that begin what they are told (the machine's replies) are those
+- the calls of a book (`gd_machine`: Names.call_name) and the rows that begin what they are told (the machine's replies) are those
   of the report, the desk, the importer and the trials of broken texts;
 - a limit that has two constants is the same in both, and messages and the help tell it;
-- each command of the program stands in GUIDE, and each of its options in what the manual says by itself of commands.
+- each command that GUIDE calls, or that messages speak of by its words (`reading_of` in `crates/gasday/src/told.rt`), is one of the
+  program, and each option of a command stands in what the manual says of it by itself.
 
 What is made of the help and of the command line isn't compared here: tests/make_tables.py and tests/manual.py check it.
 
@@ -23,19 +24,14 @@ import ast
 import re
 import sys
 from collections.abc import Iterator
-from itertools import groupby
 
 sys.dont_write_bytecode = True
 
-from command_line import TOP, commands
+from command_line import TOP, commands, forms
+from machine_tables import ROUTE, call_of, calls, tested_refusals
 from manual import HELP, helps_in
 from row_tables import row_forms, stage_of, stages
 
-CRATES = TOP / "crates"
-ROUTE = ("UnknownEnd", "WrongEnd", "SameEnd", "NoRoute")
-# The machine's events, each with the word of its call.
-CALLS = {"Nominate": "nominate", "Respond": "respond", "PostCapacity": "post", "Freeze": "freeze", "Publish": "publish",
-         "Declare": "declare", "Waive": "waive", "Skip": "skip"}
 # Names that no row of a text or a call has, since what they tell is printed by a row of its own.
 NEVER_PRINTED = {"OutOfMemory"}
 
@@ -53,24 +49,12 @@ def printed_kinds() -> list[str]:
 def told_fields() -> dict[str, int]:
     """The last field that messages know of each kind."""
     text = text_of("crates/gd_messages/src/field.rt")
-    found = {}
+    found: dict[str, int] = {}
     for kinds, number in re.findall(r"\(((?:RowKind::\w+(?: \| )?)+), (\d)\)", text):
         for kind in re.findall(r"RowKind::(\w+)", kinds):
             found[kind.lower()] = max(found.get(kind.lower(), 2), int(number))
     contract = text.partition("fn contract_field")[2].partition("\n}")[0]
     found["contract"] = max(map(int, re.findall(r"^        (\d)", contract, re.M)))
-    return found
-
-
-def tested_refusals() -> dict[str, list[str]]:
-    """The refusals of each call in the order of the machine's tests."""
-    text = text_of("crates/gd_machine/specs/Machine.antt").partition("\nabbrev pub tests_of")[2].partition("\n-- ")[0]
-    found = {}
-    for event, tests in re.findall(r"^tests_of day h \((\w+)[^=]*=\n((?: +.*\n)+)", text, re.M):
-        names = []
-        for line in tests.split("\n"):
-            names += ROUTE if "route_tests" in line else re.findall(r", ([A-Z]\w+)(?: [A-Z(].*)?\)", line)
-        found[CALLS[event]] = [name for name, _ in groupby(names)]
     return found
 
 
@@ -85,8 +69,8 @@ def helped_refusals(text: str) -> dict[str, list[str]]:
 
 
 def numbers_of(function: str) -> dict[str, str]:
-    """The clauses of a function of numbers in gd_replies, by the word of their last pattern; a variable stands for all others."""
-    text = text_of("crates/gd_replies/specs/Calls.antt")
+    """The clauses of a function of numbers of the machine, by the word of their last pattern; a variable stands for all others."""
+    text = text_of("crates/gd_machine/specs/Names.antt")
     clauses = re.findall(rf"^{function} (.*) = (.+)$", text, re.M)
     return {re.sub(r".*\b(?:call|route|refusal)\.(\w+).*", r"\1", pattern): value for pattern, value in clauses}
 
@@ -102,16 +86,20 @@ def number_of(call: str, refusal: str) -> int | None:
 
 
 # The constants that are one limit, and what messages and the help tell of it: a file and a form with the number as it is written.
-MESSAGES, PROGRAM_HELP = "crates/gd_messages/src/", "crates/gasday_words/src/help.rt"
+MESSAGES = "crates/gd_messages/src/"
 LIMITS = [
-    (("gd_text_part/src/blocks.rt", "MAX_BLOCKS"), ("gd_office/src/fault.rt", "MAX_SLOTS"), MESSAGES + "order.rt", "an office has at most {}\""),
-    (("gd_text_part/src/blocks.rt", "MAX_SESSIONS_A_SLOT"), ("gd_office_part/src/kept.rt", "MAX_SESSIONS"), MESSAGES + "order.rt", "and {} of a slot"),
+    (("gd_text_part/src/blocks.rt", "MAX_BLOCKS"), ("gd_office/src/fault.rt", "MAX_SLOTS"),
+     MESSAGES + "order.rt", "an office has at most {}\""),
+    (("gd_text_part/src/blocks.rt", "MAX_SESSIONS_A_SLOT"), ("gd_office_part/src/kept.rt", "MAX_SESSIONS"),
+     MESSAGES + "order.rt", "and {} of a slot"),
     (("gd_text_part/src/waiting.rt", "MAX_SESSIONS_A_PHASE"), None, MESSAGES + "order.rt", "at most {} between two desk rows"),
-    (("gd_lines/src/lib.rt", "MAX_LINES"), ("gd_question/src/lib.rt", "MAX_LINES"), MESSAGES + "refusal.rt", "a question has at most {}\""),
+    (("gd_lines/src/lib.rt", "MAX_LINES"), ("gd_question/src/lib.rt", "MAX_LINES"),
+     MESSAGES + "refusal.rt", "a question has at most {}\""),
     (("gd_system/src/lib.rt", "MAX_PLACES"), None, MESSAGES + "refusal.rt", "at most {} places"),
     (("gd_system/src/lib.rt", "MAX_POINTS"), None, MESSAGES + "refusal.rt", "at most {} points"),
     (("gd_system/src/lib.rt", "MAX_POOLS"), None, MESSAGES + "refusal.rt", "at most {} pools"),
-    (("gd_contracts/src/lib.rt", "MAX_CONTRACTS"), None, MESSAGES + "refusal.rt", "this contract is one too many; a pipeline has at most {}\""),
+    (("gd_contracts/src/lib.rt", "MAX_CONTRACTS"), None,
+     MESSAGES + "refusal.rt", "this contract is one too many; a pipeline has at most {}\""),
     (("gd_text_part/src/input.rt", "MAX_BYTES"), None, MESSAGES + "fault.rt", "at most {} bytes"),
     (("gd_text_part/src/records.rt", "MAX_ROWS"), None, MESSAGES + "fault.rt", " {} rows"),
     (("gd_text_part/src/input.rt", "MAX_READS"), None, MESSAGES + "fault.rt", " {} reads"),
@@ -155,20 +143,27 @@ OTHER_HEADS = [("companion/gasday_report/day.py", "HEADS", ()), ("companion/gasd
 
 
 def calls_and_heads() -> Iterator[str | None]:
-    calls = sorted(re.findall(r'^call_name call\.\w+ = codes "(\w+)"', text_of("crates/gd_replies/specs/Calls.antt"), re.M))
     for path, name, others in OTHER_CALLS:
-        yield from differing(f"the calls of a book and {name} of {path}", sorted([*calls, *others]), assigned(path, name))
+        words = sorted([*calls().values(), *others])
+        yield from differing(f"the calls of a book and {name} of {path}", words, assigned(path, name))
     replies = text_of("crates/gd_machine/src/reply.rt").partition("pub enum Reply {")[2].partition("\n}")[0]
     heads = [word.lower() for word in re.findall(r"^    ([A-Z]\w+)", replies, re.M)] + ["refused"]
     for path, name, others in OTHER_HEADS:
-        yield from differing(f"what begins an answer to a call and {name} of {path}", sorted([*heads, *others]), assigned(path, name))
+        what = f"what begins an answer to a call and {name} of {path}"
+        yield from differing(what, sorted([*heads, *others]), assigned(path, name))
 
 
 def told_commands() -> Iterator[str | None]:
     guide, manual = text_of("docs/GUIDE.md"), text_of("man/gasday.1.in")
+    for word in sorted(set(re.findall(r"\bgasday ([a-z]+)", guide))):
+        is_there = any(command.name == word for command in commands())
+        yield None if is_there else f"docs/GUIDE.md calls gasday {word}, which is no command"
+    named = text_of("crates/gasday/src/told.rt").partition("fn reading_of")[2].partition("\n}")[0]
+    ways = [f"{way.words} " for command in commands() for way in forms(command)]
+    for words in re.findall(r'Some\(\("([a-z ]+)", ', named):
+        is_there = any(way.startswith(f"{words} ") for way in ways)
+        yield None if is_there else f"messages speak of gasday {words}, which is no command"
     for command in commands():
-        told = re.search(rf"(?:gasday |`){command.name}\b", guide)
-        yield None if told else f"docs/GUIDE.md has no command {command.name}"
         # (a command without a heading there is told whole, as tests/manual.py makes it)
         for option in command.options() if f"\\fB{command.name}" in manual else []:
             told = re.search(rf"\\-\\-{option.name}\b", manual)
@@ -209,10 +204,10 @@ def faults() -> Iterator[str | None]:
         wanted = max(len(row.fields) + 1 for row in rows if row.kind == kind)
         yield from differing(f"the fields of {kind} in the help and in messages", wanted, fields.get(kind, 2))
     tested, helped = tested_refusals(), helped_refusals(day)
-    for call, names in tested.items():
+    for event, names in tested.items():
+        call = calls()[call_of(event)]
         yield from differing(f"the refusals of {call} in the machine and in the help", names, helped.get(call))
-        word = next(event for event, row in CALLS.items() if row == call).replace("PostCapacity", "Post")
-        numbers = [number_of(word, name) for name in names]
+        numbers = [number_of(call_of(event), name) for name in names]
         yield from differing(f"the numbers of the refusals of {call}, {names}", numbers, [*range(1, len(names) + 1)])
     refusals = printed("crates/gd_machine/src/refusal.rt") | set(ROUTE)
     yield from differing("refusals without a meaning in the help", sorted(refusals - meanings(day)), [])

@@ -99,11 +99,11 @@ def at_any_place(command: Command) -> Iterator[str]:
 def at_its_place(command: Command) -> Iterator[str]:
     """A command with one option that takes a value, which may stand before its file; what stands behind that may have words."""
     places, option = command.places(), f"--{command.options()[0].name}"
-    behind = f'[ "${{COMP_WORDS[2]}}" = {option} ] &&'
+    behind, ahead = (f'[ "${{COMP_WORDS[2]}}" = {option} ] {then}' for then in ("&&", "||"))
     yield from in_case(f"{command.name}:2", f"_gasday_words '{offered(command)}'", "_gasday_files")
     words = words_of(places[1] if len(places) > 1 else None)
     if words:
-        yield f"        {command.name}:3) _gasday_words '{words} --help' ;;"
+        yield f"        {command.name}:3) {ahead} _gasday_words '{words} --help' ;;"
     yield f"        {command.name}:4) {behind} _gasday_files ;;"
     if words:
         yield f"        {command.name}:5) {behind} _gasday_words '{words}' ;;"

@@ -1,10 +1,10 @@
 #!/usr/bin/env python3
 """make_all.py
 
-Makes all that is made, after a change: tables, completions and modules (make_tables.py), the manual (manual.py), the pages and
-completions of the tools beside the program (tool_pages.py), and the numbers of docs/AUDIT.md (check_audited.py). It needs nothing
-built, and prints the files that are others than before. The exit status is 0 only where all could be made; tests/run only looks
-whether all is as it would be made.
+Makes all that is made, after a change: tables, lists, completions and modules (make_tables.py), the manual (manual.py), the
+pages and completions of the tools beside the program (tool_pages.py), and the numbers of docs/AUDIT.md (check_audited.py). It
+needs nothing built, and prints the files that are others than before. The exit status is 0 only where all could be made;
+tests/run only looks whether all is as it would be made.
 """
 
 import hashlib
@@ -20,7 +20,7 @@ def sums() -> dict[str, str]:
     """The sum of each file that git has, or would take."""
     words = ["git", "ls-files", "-z", "--cached", "--others", "--exclude-standard"]
     names = subprocess.run(words, cwd=TESTS.parent, capture_output=True, text=True, check=True).stdout.split("\0")
-    files = {name: TESTS.parent / name for name in names if name and not name.startswith("crates/")}
+    files = {name: TESTS.parent / name for name in names if name}
     return {name: hashlib.sha256(path.read_bytes()).hexdigest() for name, path in files.items() if path.is_file()}
 
 

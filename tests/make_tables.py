@@ -11,6 +11,9 @@ command line (line.rt and order.rt beside that) is made of these:
 - completions/gasday.bash, _gasday and gasday.fish;
 - the table of commands in README.md.
 
+Of the machine's tests (crates/gd_machine/specs/Machine.antt) are made the lists of refusals in the comments of the book's calls
+(crates/gd_book/src/book.rt, "In this order"): what else a comment says stays.
+
 A table stands between two comments that name it. `make` writes files and tables. `check` compares them with what `make` would
 write, and prints what differs; the last line is 'N passed, M failed', where N counts what is as it would be made, and the exit
 status is 0 only where all is.
@@ -25,6 +28,7 @@ sys.dont_write_bytecode = True
 from command_line import TOP, Fault
 from gasday_completions import in_bash, in_fish, in_zsh
 from help_tables import commands_table, made_of, refusals_module, refusals_table
+from machine_tables import BOOK, book_with_lists
 from row_tables import rows_table, stages_module
 
 SCRIPT = Path(__file__).name
@@ -55,6 +59,7 @@ def made() -> dict[Path, str]:
         companion / "gasday_report" / "refusals.py": refusals_module(SCRIPT),
         companion / "gasday_import" / "stages.py": stages_module(SCRIPT),
         definitions: between(definitions, {"rows": rows_table(), "refusals": refusals_table()}),
+        BOOK: book_with_lists(),
     }
 
 
