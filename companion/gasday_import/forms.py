@@ -1,6 +1,7 @@
 """The kinds of rows: the stage of a text in which each stands, and what its fields are.
 
-Their titles stand in stages.py, which tests/make_tables.py makes. A title is a word in capitals, or the words that its field takes.
+Their titles stand in stages.py, which tests/make_tables.py makes. A title is a word in capitals, or the words that its
+field takes.
 """
 
 import re
