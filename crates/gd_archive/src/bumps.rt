@@ -54,7 +54,7 @@ fn taken_lines(alloc: Global, former: &Posting, posting: &Posting) -> Result<Bum
     ensures { IfOk result (λ lines. lines ≡ spec.taken_lines former.now posting.now) }
 {
     posting.question.known();
-    let mut lines = Bumped::of(Vec::new(alloc));
+    let mut lines = Bumped::of(alloc, Vec::new(alloc))?;
     for line in 0..posting.question.line_count() as u32 {
         lines.push(line, taken(former, posting, line as usize))?;
     }

@@ -15,7 +15,8 @@ use std::marker::Model;
 /// A contract sees the list.
 #[derive(Debug, Drop)]
 pub struct Bumped {
-    lines: Vec<(u32, Dth)>,
+    // in a box, so that what a book replies is small
+    lines: Box<Vec<(u32, Dth)>>,
 }
 
 impl Model for Bumped {
@@ -23,7 +24,7 @@ impl Model for Bumped {
 
     ghost Value = { List (ℕ × ℕ) };
 
-    ghost view = { λ b. b.lines.items };
+    ghost view = { λ b. b.lines.value.items };
 }
 
 /// Whether both lists have the same lines with as much taken from each.
@@ -34,11 +35,17 @@ fn same_lines(a: &[(u32, Dth)], b: &[(u32, Dth)]) -> bool
 }
 
 impl Bumped {
-    /// These lines, in this order.
-    pub fn of(lines: Vec<(u32, Dth)>) -> Bumped
-        ensures { result ≡ lines.items }
+    /// These lines, in this order. The only error is want of memory.
+    pub fn of(alloc: Global, lines: Vec<(u32, Dth)>) -> Result<Bumped, AllocError>
+        ensures { IfOk result (λ bumped. bumped ≡ lines.items) }
     {
-        Bumped { lines }
+        match Box::new(alloc, lines) {
+            Ok(lines) => Ok(Bumped { lines }),
+            Err(refused) => {
+                drop(refused);
+                Err(AllocError)
+            }
+        }
     }
 
     /// Adds a line from which so much is taken, last; one from which nothing is taken is left out.
@@ -69,8 +76,7 @@ impl Bumped {
     pub fn try_clone(&self, alloc: Global) -> Result<Bumped, AllocError>
         ensures { IfOk result (λ copy. copy ≡ self.now) }
     {
-        let lines = Vec::from_slice(alloc, &self.lines)?;
-        Ok(Bumped { lines })
+        Bumped::of(alloc, Vec::from_slice(alloc, &self.lines)?)
     }
 }
 

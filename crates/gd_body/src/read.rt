@@ -24,7 +24,7 @@ fn bumped_of(alloc: Global, rows: &[Row]) -> Result<Bumped, AllocError>
             lines.push((line.saturating_sub(1), quantity))?;
         }
     }
-    Ok(Bumped::of(lines))
+    Bumped::of(alloc, lines)
 }
 
 /// The prices that the rows give for the elements of a system, or the first refusal.

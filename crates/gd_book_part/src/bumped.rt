@@ -56,7 +56,7 @@ impl Tables {
             ≡ bumped_lines opening.now history.now schedule.now) }
     {
         let count = self.asked_lines(opening, history, cycle);
-        let mut lines = Bumped::of(Vec::new(alloc));
+        let mut lines = Bumped::of(alloc, Vec::new(alloc))?;
         for line in 0..count {
             let by = self.bumped_by(opening, history, cycle, schedule, line);
             lines.push(line, by)?;

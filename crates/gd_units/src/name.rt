@@ -32,7 +32,7 @@ pub enum NameFault {
 #[derive(Clone, Copy, Debug)]
 pub struct Name {
     bytes: [u8; 16],
-    len: usize,
+    len: u8,
 }
 
 impl Model for Name {
@@ -59,7 +59,7 @@ impl Name {
         ensures bytes { result.now ≡ self.now }
         ensures named { name_of self.now ≡ Ok self.now }
     {
-        &self.bytes[..self.len]
+        &self.bytes[..self.len as usize]
     }
 }
 
@@ -91,7 +91,7 @@ impl Name {
         bytes[..text.len()].copy_from_slice(text);
         Ok(Name {
             bytes,
-            len: text.len(),
+            len: text.len() as u8,
         })
     }
 
