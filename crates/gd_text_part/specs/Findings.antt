@@ -16,3 +16,8 @@ Finds (Ok x) there = there ≡ Ok x
 Finds (Err (fault.Row n c)) there = there ≡ Err (record { row = n; cause = c })
 Finds (Err fault.OutOfMemory) there = ⊤
 Finds (Err f) there = ⊥
+
+-- what was found, with what stands behind it
+abbrev pub behind : {A B : Type 0} → Result A TextFault → B → Result (A × B) TextFault
+behind (Ok x) place = Ok (x, place)
+behind (Err f) place = Err f

@@ -131,7 +131,8 @@ impl LinePlace {
         let Some(record) = fields_in(alloc, line)? else {
             return Err(TextFault::at(number, Cause::FieldCount));
         };
-        let (row, place) = row_of(alloc, Form::Day, &self.place, number, &record)?;
+        let mut place = self.place;
+        let row = row_of(alloc, Form::Day, &mut place, number, &record)?;
         // The next `sched` row must still be counted.
         if place.scheds == u32::MAX {
             return Err(TextFault::OutOfMemory);

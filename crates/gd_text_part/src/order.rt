@@ -1,8 +1,8 @@
 //! The order of rows, and the first fault of a record.
 
-ghost use Rattle.std.specs.Prelude.{◌≡◌, ◌<◌, ◌≤◌, ◌+◌, ◌^◌, IfOk};
+ghost use Rattle.std.specs.Prelude.{◌≡◌, ◌<◌, ◌≤◌, ◌+◌, ◌^◌, MatchResult, Ok, Err, OnOk};
 ghost use Rattle.csv.specs.Records.{fields_of};
-ghost use Rattle.gd_text_part.specs.Findings.{Finds, at_row};
+ghost use Rattle.gd_text_part.specs.Findings.{Finds, at_row, behind};
 
 use crate::blocks::Blocks;
 use crate::body::{
@@ -104,38 +104,36 @@ fn stands(form: Form, place: &Place, number: u64, kind: RowKind) -> Result<(), R
     Err(misplaced(number))
 }
 
-/// The blocks after a row of this kind.
-fn blocks_after(form: Form, place: &Place, kind: RowKind, row: &Row) -> Result<Blocks, Cause>
-    ensures { result ≡ spec.blocks_after form place.now kind row.now }
+/// Takes the place to where the rows stand after row `number`, or tells the limit that it passes. The blocks, which are much
+/// to copy, are written only where the row begins one of them or a session.
+fn advance(
+    form: Form,
+    place: &mut Place,
+    number: u64,
+    kind: RowKind,
+    row: &Row,
+) -> Result<(), Cause>
+    requires { place.old.scheds + 1 < 2 ^ 32 }
+    ensures next { MatchResult result
+        (λ _. spec.after form place.old number kind row.now ≡ Ok place.new)
+        (λ cause. spec.after form place.old number kind row.now ≡ Err cause) }
+    ensures scheds { OnOk result (place.new.scheds ≤ place.old.scheds + 1) }
 {
-    if place.begins(form, kind) {
-        return place.blocks.with_block(place.headed);
+    let begins = place.begins(form, kind);
+    if begins {
+        place.blocks = place.blocks.with_block(place.headed)?;
+    } else if let Row::Office(OfficeRow::Session { slot, .. }) = *row {
+        place.blocks = place.blocks.with_session(slot)?;
     }
-    match *row {
-        Row::Office(OfficeRow::Session { slot, .. }) => place.blocks.with_session(slot),
-        _ => Ok(place.blocks),
-    }
-}
-
-/// Where the rows stand after row `number`, or the limit that it passes.
-fn after(form: Form, place: &Place, number: u64, kind: RowKind, row: &Row) -> Result<Place, Cause>
-    requires { place.now.scheds + 1 < 2 ^ 32 }
-    ensures next { result ≡ spec.after form place.now number kind row.now }
-    ensures scheds { IfOk result (λ p. p.scheds ≤ place.now.scheds + 1) }
-{
-    let blocks = blocks_after(form, place, kind, row)?;
-    let waiting = place.waiting.after(form, number, kind, row)?;
-    Ok(Place {
-        stage: kind.stage_behind(),
-        headed: is_head(kind) || (place.headed && !place.begins(form, kind)),
-        scheds: if matches!(kind, RowKind::Sched) {
-            place.scheds + 1
-        } else {
-            0
-        },
-        waiting,
-        blocks,
-    })
+    place.waiting = place.waiting.after(form, number, kind, row)?;
+    place.headed = is_head(kind) || (place.headed && !begins);
+    place.scheds = if matches!(kind, RowKind::Sched) {
+        place.scheds + 1
+    } else {
+        0
+    };
+    place.stage = kind.stage_behind();
+    Ok(())
 }
 
 /// The row of this kind that record `number` is.
@@ -187,17 +185,17 @@ fn kind_at(form: Form, row: &ByteRecord) -> Result<RowKind, Cause>
     }
 }
 
-/// The row that record `number` is and the place after it, or the first fault.
+/// The row that record `number` is, behind which the rows stand then, or the first fault.
 pub(crate) fn row_of(
     alloc: Global,
     form: Form,
-    place: &Place,
+    place: &mut Place,
     number: u64,
     row: &ByteRecord,
-) -> Result<(Row, Place), TextFault>
-    requires { place.now.scheds + 1 < 2 ^ 32 }
-    ensures row { Finds result (spec.row_of form place.now number (fields_of row.now)) }
-    ensures scheds { IfOk result (λ p. p.1.scheds ≤ place.now.scheds + 1) }
+) -> Result<Row, TextFault>
+    requires { place.old.scheds + 1 < 2 ^ 32 }
+    ensures row { Finds (behind result place.new) (spec.row_of form place.old number (fields_of row.now)) }
+    ensures scheds { OnOk result (place.new.scheds ≤ place.old.scheds + 1) }
 {
     let kind = match kind_at(form, row) {
         Ok(kind) => kind,
@@ -205,8 +203,8 @@ pub(crate) fn row_of(
     };
     stands(form, place, number, kind)?;
     let row = body(alloc, form, kind, place, number, row)?;
-    match after(form, place, number, kind, &row) {
-        Ok(next) => Ok((row, next)),
+    match advance(form, place, number, kind, &row) {
+        Ok(()) => Ok(row),
         Err(cause) => Err(TextFault::at(number, cause)),
     }
 }

@@ -26,11 +26,8 @@ fn rows_of(alloc: Global, form: Form, text: &[u8]) -> Result<Vec<Row>, TextFault
     let mut records = Records::of(alloc, text);
     let mut place = Place::start();
     'rows: while records.advance()? {
-        match row_of(alloc, form, &place, records.taken, &records.current) {
-            Ok((row, next)) => {
-                rows.push(row)?;
-                place = next;
-            }
+        match row_of(alloc, form, &mut place, records.taken, &records.current) {
+            Ok(row) => rows.push(row)?,
             Err(fault) => {
                 records.skip_rest()?;
                 return Err(fault);

@@ -18,7 +18,7 @@ rows-preserved c =
     let items = rw good at c.push.ensures.items in
     record {
       reading = took.0;
-      told = rw (items, took.2) (goes_on c.args.form c.rows.place c.in-Ok.next c.rows.records.taken c.in-Ok.row (fields_of c.advance.new.self.current) (records_left c.advance.new.self) c.rows.rows.items _ (rw took.2 at c.in-Ok.ensures.row) told);
+      told = rw (items, took.2) (goes_on c.args.form c.rows.place c.row_of.new.place c.rows.records.taken c.in-Ok.row (fields_of c.advance.new.self.current) (records_left c.advance.new.self) c.rows.rows.items _ (rw took.2 at c.in-Ok.ensures.row) told);
       all = omega (arith, c.rows.invariant.all, ap length took.1, took.2);
       scheds = omega (arith, c.in-Ok.ensures.scheds, took.2, c.rows.invariant.scheds);
     }
