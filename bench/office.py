@@ -6,7 +6,7 @@ Times `gasday office` of PROGRAM, the built program, on 1, 2 and 4 cores (as far
 Prints the best of N runs (3), the peak memory, and how many rows of the answer say `reconciled`.
 
 With --stress it runs 64 sessions with 1,000,000 calls together on one book and on 64 books, each so often, and tells
-whether each slot was reconciled every time.
+whether each slot was reconciled every time, and how much longer one book takes than 64.
 """
 
 import argparse
@@ -93,13 +93,16 @@ def main():
                 text.write("\n".join(rows) + "\n")
 
         if given.stress:
+            best = {}
             for slots in (1, 64):
                 put(text_of_calls(slots, 1_000_000))
                 for turn in range(given.stress):
                     seconds, peak, status, answer = run(program, path, os.cpu_count())
+                    best[slots] = min(seconds, best.get(slots, seconds))
                     well = status == 0 and reconciled(answer) == slots
                     bad += not well
                     print(f"{slots} books, run {turn + 1}: {seconds:.2f} s, {peak / 1e6:.0f} MB, status {status}, reconciled {reconciled(answer)}", flush=True)
+            print(f"one book takes {best[1] / best[64]:.2f} times as long as 64, best of {given.stress} runs each")
             print("all reconciled" if not bad else f"{bad} runs failed")
             return 1 if bad else 0
         shapes = [

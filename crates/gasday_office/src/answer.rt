@@ -4,7 +4,9 @@ ghost use Rattle.std.specs.Prelude.{◌≡◌, ◌&&◌, ◌++◌, ◌∷◌, []
 ghost use Rattle.gd_machine.specs.Day.{Day};
 ghost use Rattle.gd_machine.specs.History.{History};
 ghost use Rattle.gd_office.specs.Slots.{AreDaysOf};
+ghost use Rattle.gd_office_text.specs.Calls.{seen_phase, asked_phase, pipelines};
 ghost use Rattle.gd_office_text.specs.Days.{days_of as days_by, opened};
+ghost use Rattle.gd_office_text.specs.Phases as texts;
 ghost use Rattle.gd_rounds.specs.Summaries.{is_in_order};
 ghost use Rattle.gasday_part.specs.AnswerSeen.{answer_seen};
 ghost use Rattle.gasday_office.specs.Offices as spec;
@@ -139,22 +141,31 @@ fn tell_books<R: Threads + Wait + Clock + Sync>(
     tell_opened::<R, Brand>(rt, alloc, books, phases, is_strict)
 }
 
+/// The phases that the rows ask for, of which nothing else is left. The only error is want of memory.
+fn asked_of(alloc: Global, days: &[DayText], rows: Vec<Row>) -> Result<Vec<Phase>, AllocError>
+    ensures { IfOk result (λ phases. map seen_phase phases.items
+        ≡ map (asked_phase (pipelines days.now)) (texts.phases_of rows.items)) }
+{
+    let texts = phases_of(alloc, rows.as_slice())?;
+    drop(rows);
+    calls_in(alloc, days, texts.as_slice())
+}
+
 /// What a run of the phases that the rows ask for tells, with a book for each of these gas days.
 fn tell_days<R: Threads + Wait + Clock + Sync>(
     rt: &R,
     alloc: Global,
     days: Vec<DayText>,
-    rows: &[Row],
+    rows: Vec<Row>,
     is_strict: bool,
 ) -> Result<Answer, AllocError>
-    ensures { IfOk result (λ a. spec.TellsDays is_strict rows.now (map opened days.items) (answer_seen a)) }
+    ensures { IfOk result (λ a. spec.TellsDays is_strict rows.items (map opened days.items) (answer_seen a)) }
 {
     let calendars = match calendars_of(alloc, days.as_slice()) {
         Ok(calendars) => calendars,
         Err(fault) => return of_no_calendar(alloc, fault),
     };
-    let texts = phases_of(alloc, rows)?;
-    let phases = calls_in(alloc, days.as_slice(), texts.as_slice())?;
+    let phases = asked_of(alloc, days.as_slice(), rows)?;
     let books = books_of(alloc, days, calendars)?;
     tell_books(rt, alloc, books, phases.as_slice(), is_strict)
 }
@@ -163,12 +174,12 @@ fn tell_days<R: Threads + Wait + Clock + Sync>(
 fn tell_office<R: Threads + Wait + Clock + Sync>(
     rt: &R,
     alloc: Global,
-    rows: &[Row],
+    rows: Vec<Row>,
     is_strict: bool,
 ) -> Result<Answer, AllocError>
-    ensures { IfOk result (λ a. spec.AnswersOffice is_strict rows.now (answer_seen a)) }
+    ensures { IfOk result (λ a. spec.AnswersOffice is_strict rows.items (answer_seen a)) }
 {
-    match days_of(alloc, rows) {
+    match days_of(alloc, rows.as_slice()) {
         Ok(days) => tell_days(rt, alloc, days, rows, is_strict),
         Err(fault) => of_fault(alloc, fault),
     }
@@ -186,7 +197,7 @@ pub fn answer_office<R: Threads + Wait + Clock + Sync>(
     ensures { IfOk result (λ a. spec.AnswersOfficeBytes is_strict text.now (answer_seen a)) }
 {
     match rows_in(alloc, Form::Office, text) {
-        Ok(rows) => tell_office(rt, alloc, rows.as_slice(), is_strict),
+        Ok(rows) => tell_office(rt, alloc, rows, is_strict),
         Err(fault) => of_fault(alloc, fault),
     }
 }

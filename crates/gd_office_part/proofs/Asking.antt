@@ -1,7 +1,7 @@
 -- What is asked of the threads, session by session, and what comes of it.
-use Rattle.std.proofs.Common.{◌≡◌, ◌∙◌, ℕ, ◌+◌, ◌<◌, ◌≤◌, List, [], ◌∷◌, ◌++◌, length, map, take, get_or, All, refl, sym, ap, ap₂, subst, arith}
+use Rattle.std.proofs.Common.{◌≡◌, ◌∙◌, ℕ, ◌+◌, ◌<◌, ◌≤◌, List, [], ◌∷◌, ◌++◌, length, map, take, drop, get_or, All, refl, sym, ap, ap₂, subst, append_assoc, arith}
 use Rattle.std.specs.List.{zip}
-use Rattle.std.proofs.lemmas.List.{take_more, take_all, get_or-map, map-append, length-map}
+use Rattle.std.proofs.lemmas.List.{take_more, take_all, take-append-drop, get_or-map, map-append, length-map}
 use Rattle.std.proofs.lemmas.List.Elements.{All-head, All-tail}
 use Rattle.std.proofs.lemmas.Slice.Zip.{length-zip, get_or-zip}
 use Rattle.std.specs.Global.{Vec}
@@ -14,6 +14,7 @@ use Rattle.gd_office_part.specs.Seen.{Session}
 use Rattle.gd_office_part.specs.declared.sent.Sent.{Sent}
 use Rattle.gd_office_part.specs.declared.threads.SessionRows.{SessionRows}
 use Rattle.gd_office_part.specs.declared.threads.Start.{Start}
+use Rattle.gd_office_part.specs.Calls.{event_of}
 use Rattle.gd_office_part.specs.Counting.{counted_all}
 use Rattle.gd_office_part.specs.Sending.{events_of, events_by, asked, asked_all, sent_as, start_of, AreSent, AreStepped, IsStepped, AreCounted}
 use Rattle.gd_office_part.specs.StepResults.{Stepped}
@@ -153,3 +154,23 @@ module _ (sessions : List Session) (starts : List Start) (rows : List SessionRow
       ∙ starts-asked sessions rows long in
       same ∙ numbers-counted all sessions starts_are
       ∙ ap (λ (l : List (List Receipt)). map (λ (p : Session × List Receipt). counted_all p.0.numbers p.1) (zip sessions l)) (sym is)
+
+-- one more call of a block has its receipt
+pub sent_more : (before receipts : List Receipt) (r : Receipt) (party : List ℕ) (calls : List Call) (at : ℕ) (call : Call) → at < length calls → call ≡ get_or calls at call
+    → r.event ≡ event_of party call → events_of receipts ≡ events_of before ++ events_by party (take at calls)
+    → events_of (receipts ++ r ∷ []) ≡ events_of before ++ events_by party (take (at + 1) calls)
+sent_more before receipts r party calls at call within is event was =
+    let more : events_by party (take (at + 1) calls) ≡ events_by party (take at calls) ++ event_of party call ∷ [] =
+    ap (events_by party) (take_more calls at call within ∙ ap (λ (c : Call). take at calls ++ c ∷ []) (sym is)) ∙ map-append (event_of party) (take at calls) (call ∷ []) in
+    map-append (λ (x : Receipt). x.event) receipts (r ∷ []) ∙ ap₂ (λ (l : List Event) (e : Event). l ++ e ∷ []) was event
+    ∙ append_assoc (events_of before) (events_by party (take at calls)) (event_of party call ∷ []) ∙ ap (λ (l : List Event). events_of before ++ l) (sym more)
+
+-- one more block of calls has its receipts
+pub block_sent : (before receipts : List Receipt) (party : List ℕ) (left : List Call) (size : ℕ) (all : List Event)
+    → events_of receipts ≡ events_of before ++ events_by party (take size left) → events_of before ++ events_by party left ≡ all
+    → events_of receipts ++ events_by party (drop size left) ≡ all
+block_sent before receipts party left size all block was =
+    let whole : events_by party (take size left) ++ events_by party (drop size left) ≡ events_by party left =
+    sym (map-append (event_of party) (take size left) (drop size left)) ∙ ap (events_by party) (take-append-drop size left) in
+    ap (λ (l : List Event). l ++ events_by party (drop size left)) block
+    ∙ append_assoc (events_of before) (events_by party (take size left)) (events_by party (drop size left)) ∙ ap (λ (l : List Event). events_of before ++ l) whole ∙ was

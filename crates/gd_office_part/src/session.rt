@@ -163,25 +163,26 @@ impl<J: Days> Slot<J> {
     }
 }
 
-/// Makes a call of this party to the book of a slot, by one step under the lock: its receipt, and a session's numbers after
-/// it. It waits for the lock. The only error is want of memory, or numbers of 2^64; then nothing was accepted.
-pub(crate) fn call_by<R: Wait, J: Days>(
-    rt: &R,
-    slot: &Slot<J>,
+/// Makes a call of this party by one step of a book, whose lock is held: its receipt, and a session's numbers after it. The
+/// only error is want of memory, or numbers of 2^64; then nothing was accepted.
+pub(crate) fn step_by<J: Days>(
+    kept: &mut Kept<J>,
+    board: &Board,
     numbers: Numbers,
     party: Name,
     call: Call,
 ) -> Result<(Receipt, Numbers), AllocError>
     ensures event { IfOk result (λ both. both.0.event ≡ event_of party call) }
-    ensures stepped { IfOk result (λ both. Stepped J.days slot.now.number both.0) }
+    ensures stepped { IfOk result (λ both. Stepped J.days kept.old.slot both.0) }
     ensures numbers { IfOk result (λ both. both.1 ≡ counted numbers both.0.event both.0.told) }
+    ensures slot { kept.new.slot ≡ kept.old.slot }
 {
     let event = call.event(party);
     let Some(next) = numbers.checked_add(Numbers::of_event(&event)) else {
         return Err(AllocError);
     };
-    let mut note = slot.board.note();
-    let receipt = slot.lock(rt).step_in(event, &slot.board, &mut note)?;
+    let mut note = board.note();
+    let receipt = kept.step_in(event, board, &mut note)?;
     let after = match receipt.told() {
         Told::Accepted(..) => next,
         Told::Refused(..) => numbers,
@@ -230,7 +231,9 @@ impl<'o, J: Days> Session<'o, J> {
         ensures err { OnErr result (self.new.numbers ≡ self.old.numbers) }
         ensures kept { (self.new.number ≡ self.old.number) × (self.new.party ≡ self.old.party) }
     {
-        let (receipt, next) = call_by(rt, self.slot, self.numbers, self.party, call)?;
+        let slot = self.slot;
+        let mut kept = slot.lock(rt);
+        let (receipt, next) = step_by(&mut kept, slot.board(), self.numbers, self.party, call)?;
         self.numbers = next;
         Ok(receipt)
     }

@@ -2,7 +2,9 @@
 
 ghost use Rattle.std.specs.Prelude.{◌≡◌, ◌≢◌, ◌↔◌, [], ◌∷◌, ◌++◌, length as len_of, map, All, IsTrue, IfOk, IfErr, OnOk, OnErr};
 ghost use Rattle.std.specs.List.{AllZip};
+ghost use Rattle.gd_office_part.specs.Counting.{counted_all};
 ghost use Rattle.gd_office_part.specs.Sending as spec;
+ghost use Rattle.gd_office_part.specs.StepResults.{Stepped};
 ghost use Rattle.gd_office_part.specs.declared.threads.SendFault.TheVariants as fault;
 
 use crate::call::Call;
@@ -10,7 +12,7 @@ use crate::days::Days;
 use crate::kept::Receipt;
 use crate::numbers::Numbers;
 use crate::sent::Sent;
-use crate::session::{Session, Slot, call_by};
+use crate::session::{Session, Slot, step_by};
 use gd_units::{Moment, Name};
 use std::alloc::{AllocError, Global};
 use std::marker::PhantomData;
@@ -77,7 +79,37 @@ impl<J: Days> Promise<Result<Sent, AllocError>> for SentOf<J> {
         × spec.IsStepped J.days sent) };
 }
 
-/// Makes the calls of one session in their order.
+/// How many calls a session makes under one taking of the lock (own). Where many sessions call one book, each taking may
+/// have to wait.
+const BLOCK: usize = 64;
+
+/// Makes calls of this party in their order, under one taking of the lock, and gives the session's numbers after them.
+fn make_block<R: Wait, J: Days>(
+    rt: &R,
+    slot: &Slot<J>,
+    party: Name,
+    before: Numbers,
+    calls: &[Call],
+    receipts: &mut Vec<Receipt>,
+) -> Result<Numbers, AllocError>
+    ensures sent { OnOk result (spec.events_of receipts.new.items
+        ≡ spec.events_of receipts.old.items ++ spec.events_by party calls.now) }
+    ensures stepped { All (Stepped J.days slot.now.number) receipts.old.items
+        → OnOk result (All (Stepped J.days slot.now.number) receipts.new.items) }
+    ensures counted { (start : Numbers) → before ≡ counted_all start receipts.old.items
+        → IfOk result (λ after. after ≡ counted_all start receipts.new.items) }
+{
+    let mut kept = slot.lock(rt);
+    let mut numbers = before;
+    for call in calls {
+        let (receipt, next) = step_by(&mut kept, slot.board(), numbers, party, *call)?;
+        receipts.push(receipt)?;
+        numbers = next;
+    }
+    Ok(numbers)
+}
+
+/// Makes the calls of one session in their order, block by block.
 fn make_calls<R: Wait, J: Days>(
     rt: &R,
     alloc: Global,
@@ -89,12 +121,13 @@ fn make_calls<R: Wait, J: Days>(
         ≡ spec.asked slot.now.number start.now.party start.now.numbers calls.now)
         × spec.IsStepped J.days sent) }
 {
-    let mut receipts = Vec::new(alloc);
+    let mut receipts = Vec::with_capacity(alloc, calls.len())?;
     let mut numbers = start.numbers;
-    for call in calls {
-        let (receipt, next) = call_by(rt, slot, numbers, start.party, *call)?;
-        receipts.push(receipt)?;
-        numbers = next;
+    let mut left = calls;
+    'rest: while !left.is_empty() {
+        let (block, later) = left.split_at(left.len().min(BLOCK));
+        numbers = make_block(rt, slot, start.party, numbers, block, &mut receipts)?;
+        left = later;
     }
     Ok(Sent::of(slot.number(), start.numbers, receipts, numbers))
 }

@@ -28,6 +28,19 @@ fn next_number(first: u64, phase: &Phase) -> Option<u64>
     if next <= 1 << 62 { Some(next) } else { None }
 }
 
+/// Tells these rows behind the others. Where there are none, nothing is copied.
+fn tell(rows: &mut Vec<Reply>, told: Vec<Reply>) -> Result<(), AllocError>
+    ensures ok { OnOk result (rows.new.items ≡ rows.old.items ++ told.items) }
+    ensures err { OnErr result (rows.new.items ≡ rows.old.items) }
+{
+    if rows.is_empty() {
+        *rows = told;
+        return Ok(());
+    }
+    let mut told = told;
+    rows.append(&mut told)
+}
+
 /// Runs a phase whose first session has this number, tells it, and holds what it gave.
 fn take_phase<'o, R: Threads + Wait + Clock + Sync, G: Gate + Sync, J: Days + Send + Sync>(
     rt: &R,
@@ -46,9 +59,9 @@ fn take_phase<'o, R: Threads + Wait + Clock + Sync, G: Gate + Sync, J: Days + Se
     ensures err { OnErr result (rows.new.items ≡ rows.old.items) }
 {
     let given = run_phase(rt, alloc, office, phase, gate)?;
-    let mut told = rows_of(alloc, first, &given)?;
+    let told = rows_of(alloc, first, &given)?;
     hold(alloc, holding, first, phase, given)?;
-    rows.append(&mut told)?;
+    tell(rows, told)?;
     Ok(())
 }
 

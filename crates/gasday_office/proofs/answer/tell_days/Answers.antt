@@ -1,6 +1,6 @@
-use Rattle.std.proofs.Common.{◌≡◌, length, vec_len, map, inr, rules}
+use Rattle.std.proofs.Common.{◌≡◌, length, vec_len, map, inr, refl, rules}
 use Rattle.std.proofs.lemmas.Result.{IfOk-weaker}
-use Rattle.gd_office_text.specs.Phases.{phase}
+use Rattle.gd_office_text.specs.Phases.{phases_of}
 use Rattle.gasday_office.proofs.Calendars.{tells_days}
 use Rattle.gasday_office.proofs.answer.tell_days.Goals as goal
 
@@ -12,7 +12,8 @@ returns-in-Err g c =
 pub returns : goal.returns
 returns g c =
     let days = c.args.days.items in
-    let asked = rw (c.as_slice-2.ensures.value, c.as_slice-3.ensures.value) at c.in_ok-phases.ensures in
+    let rows = c.args.rows.items in
+    let asked = rw c.as_slice-2.ensures.value at c.in_ok-phases.ensures in
     let many : vec_len c.in_ok-books.books ≡ length c.args.days.items = let b = c.in_ok-books.ensures.len in search rules in
-    tells_days c.args.is_strict c.tell_books.result days (map (λ b. b.day) c.in_ok-books.books.items) (vec_len c.in_ok-books.books) (map phase c.in_ok-texts.texts.items) c.in_ok-phases.phases.items c.args.rows.now
-    c.in_ok-books.ensures.each c.in_ok-texts.ensures asked many (rw c.as_slice-4.ensures.value at c.tell_books.ensures)
+    tells_days c.args.is_strict c.tell_books.result days (map (λ b. b.day) c.in_ok-books.books.items) (vec_len c.in_ok-books.books) (phases_of rows) c.in_ok-phases.phases.items rows
+    c.in_ok-books.ensures.each refl asked many (rw c.as_slice-3.ensures.value at c.tell_books.ensures)

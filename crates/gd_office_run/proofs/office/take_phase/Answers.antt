@@ -14,7 +14,7 @@ returns-clause-ok g c =
       lists_of c.in_ok-given.given.lists.items,
       c.in_ok-given.given.desks.items,
       c.in_ok-given.ensures.gives,
-      c.in_ok-append.ensures.items ∙ ap (λ (rows : List Reply). c.args.rows.now.items ++ rows) c.in_ok-told.ensures,
+      c.in_ok-tell.ensures.ok ∙ ap (λ (rows : List Reply). c.args.rows.now.items ++ rows) c.in_ok-told.ensures,
       holding.0,
       holding.1,
     )
