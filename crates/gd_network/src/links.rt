@@ -7,15 +7,19 @@ ghost use Rattle.gd_network.specs.Links.{touches, AreLinks, lists};
 use crate::Arc;
 use std::alloc::{AllocError, Global};
 
+/// Counts one more at a node.
+fn count(degrees: &mut [usize], node: usize) {
+    if let Some(degree) = degrees.get_mut(node) {
+        *degree = degree.saturating_add(1);
+    }
+}
+
 /// How many arcs begin or end at each node.
 fn degrees(alloc: Global, arcs: &[Arc], nodes: usize) -> Result<Vec<usize>, AllocError> {
     let mut degrees = vec![in alloc; 0usize; nodes]?;
     for arc in arcs {
-        for node in [arc.from, arc.to] {
-            if let Some(degree) = degrees.get_mut(node) {
-                *degree = degree.saturating_add(1);
-            }
-        }
+        count(&mut degrees, arc.from);
+        count(&mut degrees, arc.to);
     }
     Ok(degrees)
 }

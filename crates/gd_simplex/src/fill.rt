@@ -20,15 +20,6 @@ struct Filling<'t> {
     former: Vec<i64>,
 }
 
-/// So many copies of nothing.
-fn zeros<T: Copy>(alloc: Global, zero: T, count: usize) -> Result<Vec<T>, AllocError> {
-    let mut zeros = Vec::with_capacity(alloc, count)?;
-    for _ in 0..count {
-        zeros.push(zero)?;
-    }
-    Ok(zeros)
-}
-
 /// Adds to the number at a place.
 fn add(numbers: &mut [i64], at: u32, amount: i64) {
     if let Some(number) = numbers.get_mut(at as usize) {
@@ -157,10 +148,10 @@ pub(crate) fn fill(
 ) -> Result<(), AllocError> {
     let mut filling = Filling {
         tree,
-        surpluses: zeros(alloc, 0, tree.count())?,
-        sums: zeros(alloc, 0, tree.count())?,
-        parts: zeros(alloc, 0, tree.count())?,
-        former: zeros(alloc, 0, arcs.len())?,
+        surpluses: vec![in alloc; 0i64; tree.count()]?,
+        sums: vec![in alloc; 0i64; tree.count()]?,
+        parts: vec![in alloc; 0u32; tree.count()]?,
+        former: vec![in alloc; 0i64; arcs.len()]?,
     };
     filling.begin(arcs, amounts);
     for class in 1..=Class::MAX {

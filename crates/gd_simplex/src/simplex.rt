@@ -29,15 +29,6 @@ pub(crate) struct Simplex {
     pub pivots: usize,
 }
 
-/// So many numbers, all 0.
-fn zeros(alloc: Global, count: usize) -> Result<Vec<i128>, AllocError> {
-    let mut zeros = Vec::with_capacity(alloc, count)?;
-    for _ in 0..count {
-        zeros.push(0)?;
-    }
-    Ok(zeros)
-}
-
 impl Simplex {
     /// The simplex over arcs that a tree of them spans.
     pub(crate) fn of(
@@ -47,7 +38,7 @@ impl Simplex {
         tree: Tree,
     ) -> Result<Simplex, AllocError> {
         Ok(Simplex {
-            spreads: zeros(alloc, tree.count())?,
+            spreads: vec![in alloc; 0i128; tree.count()]?,
             amounts,
             tree,
             gains: Gains::short(alloc, false)?,

@@ -146,26 +146,29 @@ fn short_gained(class: u32, piece: i128, tenths: bool) -> Worth {
 }
 
 impl Gains {
-    /// The table of what the pieces gain in short.
-    pub(crate) fn short(alloc: Global, tenths: bool) -> Result<Gains, AllocError> {
+    /// The table of what the pieces gain, in short or not.
+    fn table(alloc: Global, is_short: bool, tenths: bool) -> Result<Gains, AllocError> {
         let mut worths = Vec::with_capacity(alloc, CLASSES * PIECES)?;
         for entry in 0..CLASSES * PIECES {
             let class = (entry / PIECES) as u32;
             let piece = (entry % PIECES) as i128;
-            worths.push(short_gained(class, piece, tenths))?;
+            worths.push(if is_short {
+                short_gained(class, piece, tenths)
+            } else {
+                gained(class, piece, tenths)
+            })?;
         }
         Ok(Gains { worths })
     }
 
+    /// The table of what the pieces gain in short.
+    pub(crate) fn short(alloc: Global, tenths: bool) -> Result<Gains, AllocError> {
+        Gains::table(alloc, true, tenths)
+    }
+
     /// The table of what the pieces gain.
     pub fn of(alloc: Global, tenths: bool) -> Result<Gains, AllocError> {
-        let mut worths = Vec::with_capacity(alloc, CLASSES * PIECES)?;
-        for entry in 0..CLASSES * PIECES {
-            let class = (entry / PIECES) as u32;
-            let piece = (entry % PIECES) as i128;
-            worths.push(gained(class, piece, tenths))?;
-        }
-        Ok(Gains { worths })
+        Gains::table(alloc, false, tenths)
     }
 
     /// What a dekatherm gains in a piece of an arc of this class, by classes.
