@@ -130,22 +130,35 @@ def assigned(path: str, name: str) -> list[str]:
         if any(isinstance(it, ast.Name) and it.id == name for it in targets):
             value = getattr(node, "value", None)
             words = value.keys if isinstance(value, ast.Dict) else getattr(value, "elts", [])
-            return sorted(it.value for it in words if isinstance(it, ast.Constant))
+            found = [it.value for it in words if isinstance(it, ast.Constant)]
+            return sorted(it.decode() if isinstance(it, bytes) else it for it in found)
     return []
 
 
 # Where the calls of a book are listed, and where the rows are that begin what a call is told, with what else stands there.
 OTHER_CALLS = [("companion/gasday_report/day.py", "CALLS", ()), ("companion/gasday_desk/rows.py", "CALLS", ()),
-               ("companion/gasday_desk/permissions.py", "CALLS", ("clock", "open")), ("tests/break_days.py", "CALLS", ())]
+               ("companion/gasday_desk/permissions.py", "CALLS", ("clock", "open")), ("tests/break_days.py", "CALLS", ()),
+               ("tests/serve_books.py", "OF_CALLS", ("sched", "price", "inside"))]
 OTHER_HEADS = [("companion/gasday_report/day.py", "HEADS", ()), ("companion/gasday_desk/rows.py", "HEADS", ()),
                ("companion/gasday_import/confirmations.py", "HEADS", ("fault",)),
                ("tests/break_days.py", "REPLIES", ("bound", "total", "sched", "bumped", "inside"))]
+
+
+def calls_shown() -> dict[str, list[str]]:
+    """The calls that each part of the report has something for."""
+    course, day, timeline = (f"companion/gasday_report/{name}.py" for name in ("course", "day", "timeline"))
+    asked = text_of(day).partition("def asked_words")[2].partition("\ndef ")[0]
+    return {f"after_.. of {course}": sorted(set(re.findall(r"\bafter_(\w+)", text_of(course)))),
+            f"asked_words of {day}": sorted(re.findall(r'"([a-z]+)"', asked)),
+            f"LANES and LANE_OF of {timeline}": sorted([*assigned(timeline, "LANES"), *assigned(timeline, "LANE_OF")])}
 
 
 def calls_and_heads() -> Iterator[str | None]:
     for path, name, others in OTHER_CALLS:
         words = sorted([*calls().values(), *others])
         yield from differing(f"the calls of a book and {name} of {path}", words, assigned(path, name))
+    for what, shown in calls_shown().items():
+        yield from differing(f"the calls of a book and {what}", sorted(calls().values()), shown)
     replies = text_of("crates/gd_machine/src/reply.rt").partition("pub enum Reply {")[2].partition("\n}")[0]
     heads = [word.lower() for word in re.findall(r"^    ([A-Z]\w+)", replies, re.M)] + ["refused"]
     for path, name, others in OTHER_HEADS:
