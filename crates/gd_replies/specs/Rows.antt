@@ -17,12 +17,12 @@ field_text (field.Word word) = word.now
 field_text (field.Number n) = decimal n
 field_text (field.Signed z) = signed_decimal z
 field_text (field.Spread spread) = spread_field spread.0
-field_text (field.Name name) = name
+field_text (field.Name name) = name.now
 field_text (field.Call call) = call_name call
 field_text (field.Refusal refusal) = refusal_name refusal
 field_text (field.Detail detail) = refusal_detail detail.0
 field_text (field.Certificate fault) = cert_fault_name fault
-field_text (field.Sum sum) = encode_lower sum.0
+field_text (field.Sum sum) = encode_lower sum.now
 
 -- the kind and the seven fields of a row
 abbrev pub all_fields : AllFields → List (List ℕ)

@@ -12,34 +12,43 @@ use gd_units::Name;
 use hex::encode_to_slice;
 use std::fmt;
 
-/// A field of a row.
+/// A field of a row. What is long is lent.
 #[derive(Clone, Copy)]
-pub(crate) enum Field {
+pub(crate) enum Field<'r> {
     Word(&'static str),
     Number(u64),
     Signed(i128),
     Spread(SpreadField),
-    Name(Name),
+    Name(&'r Name),
     Call(Call),
     Refusal(Refusal),
     Detail(DetailField),
     Certificate(CertFault),
-    Sum(SumField),
+    Sum(&'r [u8; 32]),
 }
 
 /// The fields of a row, of which the first is its kind. Those behind them are empty.
 #[derive(Clone, Copy)]
-pub(crate) enum Row {
+pub(crate) enum Row<'r> {
     /// A fault prints three fields itself.
     Fault(TextFault),
     One(&'static str),
-    Two(&'static str, Field),
-    Three(&'static str, Field, Field),
-    Four(&'static str, Field, Field, Field),
-    Five(&'static str, Field, Field, Field, Field),
-    Six(&'static str, Field, Field, Field, Field, Field),
-    Seven(&'static str, Field, Field, Field, Field, Field, Field),
-    Eight(&'static str, Field, Field, Field, Field, Field, Field, Field),
+    Two(&'static str, Field<'r>),
+    Three(&'static str, Field<'r>, Field<'r>),
+    Four(&'static str, Field<'r>, Field<'r>, Field<'r>),
+    Five(&'static str, Field<'r>, Field<'r>, Field<'r>, Field<'r>),
+    Six(&'static str, Field<'r>, Field<'r>, Field<'r>, Field<'r>, Field<'r>),
+    Seven(&'static str, Field<'r>, Field<'r>, Field<'r>, Field<'r>, Field<'r>, Field<'r>),
+    Eight(
+        &'static str,
+        Field<'r>,
+        Field<'r>,
+        Field<'r>,
+        Field<'r>,
+        Field<'r>,
+        Field<'r>,
+        Field<'r>,
+    ),
 }
 
 /// A word of the spread as a field, which is empty where the word is 0.
@@ -77,7 +86,7 @@ impl fmt::Display for DetailField {
 
 /// A SHA-256 as a field: 64 hexadecimal digits, with lower case letters.
 #[derive(Clone, Copy)]
-pub(crate) struct SumField(pub(crate) [u8; 32]);
+struct SumField([u8; 32]);
 
 impl fmt::Display for SumField {
     ghost output = { λ s. Some (encode_lower s.0) };
@@ -94,7 +103,7 @@ impl fmt::Display for SumField {
     }
 }
 
-impl fmt::Display for Field {
+impl fmt::Display for Field<'_> {
     ghost output = { λ x. Some (field_text x) };
 
     fn fmt<W: fmt::Write>(&self, f: &mut fmt::Formatter<W>) -> fmt::Result {
@@ -108,7 +117,7 @@ impl fmt::Display for Field {
             Field::Refusal(refusal) => refusal.fmt(f),
             Field::Detail(detail) => detail.fmt(f),
             Field::Certificate(fault) => fault.fmt(f),
-            Field::Sum(sum) => sum.fmt(f),
+            Field::Sum(sum) => SumField(**sum).fmt(f),
         }
     }
 }
@@ -117,13 +126,13 @@ impl fmt::Display for Field {
 #[derive(Clone, Copy)]
 struct AllFields<'a>(
     &'a str,
-    &'a Field,
-    &'a Field,
-    &'a Field,
-    &'a Field,
-    &'a Field,
-    &'a Field,
-    &'a Field,
+    &'a Field<'a>,
+    &'a Field<'a>,
+    &'a Field<'a>,
+    &'a Field<'a>,
+    &'a Field<'a>,
+    &'a Field<'a>,
+    &'a Field<'a>,
 );
 
 impl fmt::Display for AllFields<'_> {
@@ -135,7 +144,7 @@ impl fmt::Display for AllFields<'_> {
     }
 }
 
-impl fmt::Display for Row {
+impl fmt::Display for Row<'_> {
     ghost output = { λ r. Some (line (row_fields r)) };
 
     fn fmt<W: fmt::Write>(&self, f: &mut fmt::Formatter<W>) -> fmt::Result {
