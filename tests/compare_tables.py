@@ -43,7 +43,7 @@ def text_of(path: str) -> str:
 def printed_kinds() -> list[str]:
     """The first fields of all rows that are printed."""
     text = text_of("crates/gd_replies/specs/Lines.antt")
-    return sorted(set(re.findall(r'^(?:uncertified_fields .*|fields_of .*) =\s+codes "(\w+)"', text, re.M)))
+    return sorted(set(re.findall(r'^(?:\w+_fields|fields_of) .* =\s+codes "(\w+)"', text, re.M)))
 
 
 def told_fields() -> dict[str, int]:

@@ -55,11 +55,9 @@ fn write_unopened<S: Alter + Drop, W: Write>(alloc: Global, error: &Error, write
 {
     let answer = of_one(alloc, unopened_row(error), 2);
     let status = write_answer(alloc, writer, &answer);
-    let last = last_of(&answer);
-    drop(answer);
     Ran {
         status,
-        last,
+        last: last_of(answer),
         file: None,
         course: None,
     }

@@ -105,11 +105,15 @@ fn answered<T: Threads + Wait + Clock + Sync, S: Alter + Drop, O: Opener<S>>(
 
 /// The row that tells why an answer isn't good: of an office's that of the last slot that is not reconciled, where one is, and else the
 /// last one.
-fn telling_row(order: Order<'_>, answer: &Result<Answer, AllocError>) -> Option<Reply> {
-    if let (Order::Office { .. }, Ok(answer)) = (order, answer) {
+fn telling_row(order: Order<'_>, answer: Result<Answer, AllocError>) -> Option<Reply> {
+    if let (Order::Office { .. }, Ok(answer)) = (order, &answer) {
         for row in answer.replies.as_slice().iter().rev() {
-            if matches!(row, Reply::Mismatch { .. } | Reply::Missing { .. }) {
-                return Some(*row);
+            match *row {
+                Reply::Mismatch { slot, list, index } => {
+                    return Some(Reply::Mismatch { slot, list, index });
+                }
+                Reply::Missing { slot, count } => return Some(Reply::Missing { slot, count }),
+                _ => {}
             }
         }
     }
@@ -135,7 +139,6 @@ fn run_over<T: Threads + Wait + Clock + Sync, S: Alter + Drop, W: Write, O: Open
         repeats,
     } = answered(threads, alloc, order, text, opener);
     let status = write_answer(alloc, writer, &answer);
-    let last = telling_row(order, &answer);
     let course = match summary_in(&answer) {
         Some(summary) => Some(Course { summary, repeats }),
         None => {
@@ -143,10 +146,9 @@ fn run_over<T: Threads + Wait + Clock + Sync, S: Alter + Drop, W: Write, O: Open
             None
         }
     };
-    drop(answer);
     Ran {
         status,
-        last,
+        last: telling_row(order, answer),
         file: archive,
         course,
     }

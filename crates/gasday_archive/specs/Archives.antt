@@ -50,7 +50,16 @@ store_fault (store.Store e) = no_store
 -- ---- each posting
 
 abbrev pub sound_row : Summary → Reply
-sound_row s = reply.Sound s.book s.cycle s.round (number s.rule) s.lines s.quantity s.sum
+sound_row s =
+    reply.Sound (record {
+      book = s.book;
+      cycle = s.cycle;
+      round = s.round;
+      rule = number s.rule;
+      lines = s.lines;
+      quantity = s.quantity;
+      sum = s.sum;
+    })
 
 -- The rows of what is found of a posting: that it is sound, and behind that, where its bumped lines could be compared with nothing, that
 -- they weren't; or why it isn't.

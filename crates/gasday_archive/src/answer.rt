@@ -7,7 +7,7 @@ ghost use Rattle.gasday_archive.specs.Archives as spec;
 
 use gasday_part::{Answer, of_one};
 use gd_archive::{AuditFault, Bumps, Finding, MigrateFault, StoreFault, Summary, Unsound};
-use gd_replies::Reply;
+use gd_replies::{Boxed, Reply, SoundPosting};
 use gd_units::{CycleNo, Name};
 use std::alloc::{AllocError, Global};
 
@@ -60,9 +60,9 @@ pub(crate) fn of_audit(alloc: Global, found: &Result<u64, AuditFault>) -> Result
     }
 }
 
-/// The row of a sound posting.
-fn sound_row(summary: Summary) -> Reply
-    ensures { result ≡ spec.sound_row summary }
+/// The row of a sound posting. The only error is want of memory.
+fn sound_row(alloc: Global, summary: Summary) -> Result<Reply, AllocError>
+    ensures { IfOk result (λ row. row ≡ spec.sound_row summary) }
 {
     let Summary {
         book,
@@ -73,7 +73,7 @@ fn sound_row(summary: Summary) -> Reply
         quantity,
         sum,
     } = summary;
-    Reply::Sound {
+    let posting = SoundPosting {
         book,
         cycle: u64::from(cycle.number()),
         round: u64::from(round.number()),
@@ -81,19 +81,25 @@ fn sound_row(summary: Summary) -> Reply
         lines: lines as u64,
         quantity,
         sum,
-    }
+    };
+    Ok(Reply::Sound(Boxed::of(alloc, posting)?))
 }
 
 /// Appends the row of a sound posting, and what is found of its bumped lines.
-fn push_sound(rows: &mut Vec<Reply>, summary: Summary, bumps: Bumps) -> Result<(), AllocError>
+fn push_sound(
+    alloc: Global,
+    rows: &mut Vec<Reply>,
+    summary: Summary,
+    bumps: Bumps,
+) -> Result<(), AllocError>
     ensures { OnOk result (rows.new.items ≡ rows.old.items ++ spec.finding_rows (Finding.Sound summary bumps)) }
 {
     let (book, cycle) = (summary.book, u64::from(summary.cycle.number()));
     match bumps {
-        Bumps::Right => rows.push(sound_row(summary))?,
+        Bumps::Right => rows.push(sound_row(alloc, summary)?)?,
         Bumps::Wrong => rows.push(Reply::UnsoundBumps { book, cycle })?,
         Bumps::Unchecked => {
-            rows.push(sound_row(summary))?;
+            rows.push(sound_row(alloc, summary)?)?;
             rows.push(Reply::UncheckedBumps { book, cycle })?;
         }
     }
@@ -101,11 +107,11 @@ fn push_sound(rows: &mut Vec<Reply>, summary: Summary, bumps: Bumps) -> Result<(
 }
 
 /// Appends the rows of what is found of a posting.
-fn push_finding(rows: &mut Vec<Reply>, finding: Finding) -> Result<(), AllocError>
+fn push_finding(alloc: Global, rows: &mut Vec<Reply>, finding: Finding) -> Result<(), AllocError>
     ensures { OnOk result (rows.new.items ≡ rows.old.items ++ spec.finding_rows finding) }
 {
     match finding {
-        Finding::Sound(summary, bumps) => push_sound(rows, summary, bumps)?,
+        Finding::Sound(summary, bumps) => push_sound(alloc, rows, summary, bumps)?,
         Finding::Unsound(book, cycle, what) => rows.push(unsound_row(book, cycle, what))?,
     }
     Ok(())
@@ -124,7 +130,7 @@ fn finding_rows(alloc: Global, findings: &[Finding]) -> Result<Vec<Reply>, Alloc
 {
     let mut rows = Vec::with_capacity(alloc, findings.len())?;
     'findings: for finding in findings {
-        push_finding(&mut rows, *finding)?;
+        push_finding(alloc, &mut rows, *finding)?;
     }
     Ok(rows)
 }

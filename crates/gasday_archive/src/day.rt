@@ -32,19 +32,19 @@ fn run_and_keep<S: Alter>(
     alloc: Global,
     conn: &mut Connection<S>,
     book: &mut Book,
-    rows: &[Row],
+    rows: Vec<Row>,
     is_strict: bool,
     told: &mut Vec<Reply>,
     repeats: &mut Vec<Repeated>,
 ) -> Result<(u8, Summary), AllocError>
     requires new { book.old.history ≡ [] }
-    requires pass { AllPass book.old.day.holdings.pipeline (calls_of rows.now) }
+    requires pass { AllPass book.old.day.holdings.pipeline (calls_of rows.items) }
     requires empty { told.old.items ≡ [] }
     ensures kept { HasCleanDisk (state S.Store conn.new) → IfOk result (λ ended.
-        spec.KeepsRun S.Store is_strict book.old.day (calls_of rows.now) conn.old conn.new told.new.items ended.0) }
+        spec.KeepsRun S.Store is_strict book.old.day (calls_of rows.items) conn.old conn.new told.new.items ended.0) }
     ensures clean { HasCleanDisk (state S.Store conn.new) → HasCleanDisk (state S.Store conn.old) }
     ensures short { OnErr result (conn.new ≡ conn.old) }
-    ensures part { OnErr result (RunsInPart book.old.day [] (calls_of rows.now) told.new.items) }
+    ensures part { OnErr result (RunsInPart book.old.day [] (calls_of rows.items) told.new.items) }
 {
     let board = Board::new(alloc);
     let mut note = board.note();
@@ -62,14 +62,14 @@ fn tell_calls<S: Alter>(
     alloc: Global,
     conn: &mut Connection<S>,
     book: &mut Book,
-    rows: &[Row],
+    rows: Vec<Row>,
     is_strict: bool,
     repeats: &mut Vec<Repeated>,
 ) -> Answer
     requires new { book.old.history ≡ [] }
-    requires pass { AllPass book.old.day.holdings.pipeline (calls_of rows.now) }
+    requires pass { AllPass book.old.day.holdings.pipeline (calls_of rows.items) }
     ensures kept { HasCleanDisk (state S.Store conn.new) → spec.TellsKept S.Store is_strict
-        book.old.day (calls_of rows.now) conn.old conn.new (answer_seen result) }
+        book.old.day (calls_of rows.items) conn.old conn.new (answer_seen result) }
     ensures clean { HasCleanDisk (state S.Store conn.new) → HasCleanDisk (state S.Store conn.old) }
 {
     let mut replies = Vec::new(alloc);
@@ -94,14 +94,14 @@ pub(crate) fn tell_in_archive<S: Alter>(
     alloc: Global,
     conn: &mut Connection<S>,
     book: &mut Book,
-    rows: &[Row],
+    rows: Vec<Row>,
     is_strict: bool,
     repeats: &mut Vec<Repeated>,
 ) -> Result<Answer, AllocError>
     requires new { book.old.history ≡ [] }
-    requires pass { AllPass book.old.day.holdings.pipeline (calls_of rows.now) }
+    requires pass { AllPass book.old.day.holdings.pipeline (calls_of rows.items) }
     ensures made { spec.Tells (λ a. HasCleanDisk (state S.Store conn.new) → spec.TellsMade S.Store is_strict
-        book.old.day (calls_of rows.now) conn.old conn.new a) result }
+        book.old.day (calls_of rows.items) conn.old conn.new a) result }
 {
     match make(conn) {
         Ok(()) => Ok(tell_calls(rt, alloc, conn, book, rows, is_strict, repeats)),

@@ -110,12 +110,12 @@ fn tell_book<S: Alter + Drop>(
     alloc: Global,
     opened: Result<Connection<S>, Error>,
     book: &mut Book,
-    rows: &[Row],
+    rows: Vec<Row>,
     is_strict: bool,
 ) -> Outcome<S>
     requires new { book.old.history ≡ [] }
-    requires pass { AllPass book.old.day.holdings.pipeline (calls_of rows.now) }
-    ensures { spec.Tells (spec.TellsOf S.Store (spec.TellsMade S.Store is_strict book.old.day (calls_of rows.now))
+    requires pass { AllPass book.old.day.holdings.pipeline (calls_of rows.items) }
+    ensures { spec.Tells (spec.TellsOf S.Store (spec.TellsMade S.Store is_strict book.old.day (calls_of rows.items))
         opened result.archive) result.answer }
 {
     let Ok(mut conn) = opened else {
@@ -135,12 +135,12 @@ fn tell_text<S: Alter + Drop, O: Opener<S>>(
     rt: &(impl Threads + Sync),
     alloc: Global,
     text: DayText,
-    rows: &[Row],
+    rows: Vec<Row>,
     is_strict: bool,
     opener: O,
 ) -> Outcome<S>
-    requires pass { AllPass text.contracts.pipeline (calls_of rows.now) }
-    ensures { spec.Tells (spec.OrNoMemory (spec.TellsDate S.Store (O.Opener.opens opener) is_strict rows.now (record {
+    requires pass { AllPass text.contracts.pipeline (calls_of rows.items) }
+    ensures { spec.Tells (spec.OrNoMemory (spec.TellsDate S.Store (O.Opener.opens opener) is_strict rows.items (record {
       date = text.date;
       zone = text.zone;
       book = text.book;
@@ -164,11 +164,13 @@ fn tell_text<S: Alter + Drop, O: Opener<S>>(
             }
             // No line is carried over twice, so that nothing but memory can be wanting.
             Err(_) => {
+                drop(rows);
                 drop(opener);
                 Outcome::unopened(Err(AllocError))
             }
         },
         Err(fault) => {
+            drop(rows);
             drop(contracts);
             drop(carry);
             drop(opener);
@@ -181,14 +183,14 @@ fn tell_text<S: Alter + Drop, O: Opener<S>>(
 fn tell_rows<S: Alter + Drop, O: Opener<S>>(
     rt: &(impl Threads + Sync),
     alloc: Global,
-    rows: &[Row],
+    rows: Vec<Row>,
     is_strict: bool,
     opener: O,
 ) -> Outcome<S>
-    ensures { spec.Tells (spec.OrNoMemory (spec.TellsDay S.Store (O.Opener.opens opener) is_strict rows.now
-        (opened_of rows.now)) result.archive) result.answer }
+    ensures { spec.Tells (spec.OrNoMemory (spec.TellsDay S.Store (O.Opener.opens opener) is_strict rows.items
+        (opened_of rows.items)) result.archive) result.answer }
 {
-    match day_text_of(alloc, rows) {
+    match day_text_of(alloc, rows.as_slice()) {
         Ok(text) => tell_text(rt, alloc, text, rows, is_strict, opener),
         Err(fault) => Outcome::unopened(of_fault(alloc, fault)),
     }
@@ -206,7 +208,7 @@ pub(crate) fn tell_day<S: Alter + Drop, O: Opener<S>>(
         result.archive) result.answer }
 {
     match rows_in(alloc, Form::Day, text) {
-        Ok(rows) => tell_rows(rt, alloc, rows.as_slice(), is_strict, opener),
+        Ok(rows) => tell_rows(rt, alloc, rows, is_strict, opener),
         Err(fault) => Outcome::unopened(of_fault(alloc, fault)),
     }
 }

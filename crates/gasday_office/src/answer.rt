@@ -91,10 +91,10 @@ fn tell_run<R: Threads + Wait + Clock + Sync, J: Days + Send + Sync>(
     rt: &R,
     alloc: Global,
     office: &Office<J>,
-    phases: &[Phase],
+    phases: Vec<Phase>,
     is_strict: bool,
 ) -> Answer
-    ensures { spec.TellsPhases is_strict J.days (len_of office.now.slots.items) phases.now (answer_seen result) }
+    ensures { spec.TellsPhases is_strict J.days (len_of office.now.slots.items) phases.items (answer_seen result) }
 {
     let mut replies = Vec::new(alloc);
     match run(rt, alloc, office, phases, &Open, &mut replies) {
@@ -114,11 +114,11 @@ fn tell_opened<R: Threads + Wait + Clock + Sync, J: Days + Send + Sync>(
     rt: &R,
     alloc: Global,
     books: Vec<Book>,
-    phases: &[Phase],
+    phases: Vec<Phase>,
     is_strict: bool,
 ) -> Result<Answer, AllocError>
     requires { AreDaysOf J.days books.items }
-    ensures { IfOk result (λ a. spec.TellsPhases is_strict J.days (vec_len books) phases.now (answer_seen a)) }
+    ensures { IfOk result (λ a. spec.TellsPhases is_strict J.days (vec_len books) phases.items (answer_seen a)) }
 {
     match Office::<J>::new(alloc, books) {
         Ok(office) => Ok(tell_run(rt, alloc, &office, phases, is_strict)),
@@ -132,11 +132,11 @@ fn tell_books<R: Threads + Wait + Clock + Sync>(
     rt: &R,
     alloc: Global,
     books: Vec<Book>,
-    phases: &[Phase],
+    phases: Vec<Phase>,
     is_strict: bool,
 ) -> Result<Answer, AllocError>
     ensures { IfOk result (λ a. spec.TellsPhases is_strict (map (λ b. b.day) books.items) (vec_len books)
-        phases.now (answer_seen a)) }
+        phases.items (answer_seen a)) }
 {
     tell_opened::<R, Brand>(rt, alloc, books, phases, is_strict)
 }
@@ -167,7 +167,7 @@ fn tell_days<R: Threads + Wait + Clock + Sync>(
     };
     let phases = asked_of(alloc, days.as_slice(), rows)?;
     let books = books_of(alloc, days, calendars)?;
-    tell_books(rt, alloc, books, phases.as_slice(), is_strict)
+    tell_books(rt, alloc, books, phases, is_strict)
 }
 
 /// What the rows of an office's text are answered.

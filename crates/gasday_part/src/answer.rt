@@ -76,11 +76,14 @@ pub fn summary_in(answer: &Result<Answer, AllocError>) -> Option<Summary> {
 }
 
 /// The row with which an answer ends; where there was no memory for one, that is told in its place.
-pub fn last_of(answer: &Result<Answer, AllocError>) -> Option<Reply>
-    ensures { IfOk answer.now (λ a. result ≡ spec.last_of (answer_seen a).replies) }
+pub fn last_of(answer: Result<Answer, AllocError>) -> Option<Reply>
+    ensures { IfOk answer (λ a. result ≡ spec.last_of (answer_seen a).replies) }
 {
     match answer {
-        Ok(answer) if !answer.short => answer.replies.as_slice().last().copied(),
+        Ok(answer) if !answer.short => {
+            let mut replies = answer.replies;
+            replies.pop()
+        }
         _ => Some(Reply::Fault(TextFault::OutOfMemory)),
     }
 }
@@ -150,16 +153,16 @@ fn answer_to_rows(
     rt: &(impl Threads + Sync),
     alloc: Global,
     command: Command,
-    rows: &[Row],
+    rows: Vec<Row>,
 ) -> Result<Answer, AllocError>
-    ensures { IfOk result (λ a. spec.AnswersRows command rows.now (answer_seen a)) }
+    ensures { IfOk result (λ a. spec.AnswersRows command rows.items (answer_seen a)) }
 {
     match command {
-        Command::CheckAllowed => tell_allowed(alloc, rows),
-        Command::CheckBest => tell_best(alloc, rows),
-        Command::CheckCut => tell_cut(alloc, rows),
-        Command::Solve => tell_solved(alloc, rows),
-        Command::Calendar => tell_calendar(alloc, rows),
+        Command::CheckAllowed => tell_allowed(alloc, rows.as_slice()),
+        Command::CheckBest => tell_best(alloc, rows.as_slice()),
+        Command::CheckCut => tell_cut(alloc, rows.as_slice()),
+        Command::Solve => tell_solved(alloc, rows.as_slice()),
+        Command::Calendar => tell_calendar(alloc, rows.as_slice()),
         Command::Day => tell_day(rt, alloc, rows, false),
         Command::StrictDay => tell_day(rt, alloc, rows, true),
     }
@@ -177,7 +180,7 @@ pub fn answer_of(
     ensures { IfOk result (λ a. spec.AnswersBytes command text.now (answer_seen a)) }
 {
     match rows_in(alloc, form_of(command), text) {
-        Ok(rows) => answer_to_rows(rt, alloc, command, rows.as_slice()),
+        Ok(rows) => answer_to_rows(rt, alloc, command, rows),
         Err(fault) => of_fault(alloc, fault),
     }
 }

@@ -33,12 +33,12 @@ fn tell_calls(
     rt: &(impl Threads + Sync),
     alloc: Global,
     book: &mut Book,
-    rows: &[Row],
+    rows: Vec<Row>,
     is_strict: bool,
 ) -> Answer
     requires new { book.old.history ≡ [] }
-    requires pass { AllPass book.old.day.holdings.pipeline (calls_of rows.now) }
-    ensures { spec.TellsCourse is_strict book.old.day (calls_of rows.now) (answer_seen result) }
+    requires pass { AllPass book.old.day.holdings.pipeline (calls_of rows.items) }
+    ensures { spec.TellsCourse is_strict book.old.day (calls_of rows.items) (answer_seen result) }
 {
     let board = Board::new(alloc);
     let mut note = board.note();
@@ -56,12 +56,12 @@ fn tell_calls(
 pub(crate) fn tell_day(
     rt: &(impl Threads + Sync),
     alloc: Global,
-    rows: &[Row],
+    rows: Vec<Row>,
     is_strict: bool,
 ) -> Result<Answer, AllocError>
-    ensures { IfOk result (λ a. spec.TellsDay is_strict rows.now (opened_of rows.now) (answer_seen a)) }
+    ensures { IfOk result (λ a. spec.TellsDay is_strict rows.items (opened_of rows.items) (answer_seen a)) }
 {
-    match open_book(alloc, rows) {
+    match open_book(alloc, rows.as_slice()) {
         Ok(mut book) => {
             let told = tell_calls(rt, alloc, &mut book, rows, is_strict);
             drop(book);

@@ -41,7 +41,7 @@ pub struct Printed {
 }
 
 /// How an answer was written: the exit status, and the row that tells why it isn't 0, if it is known.
-#[derive(Clone, Copy)]
+#[derive(Drop)]
 pub struct Written {
     pub status: u8,
     pub last: Option<Reply>,
@@ -118,9 +118,10 @@ pub fn write_rows<W: Write>(
         → output.Written (W.contents writer.old) (W.contents writer.new) result.status told }
 {
     let status = write_answer(alloc, writer, &answer);
-    let last = last_of(&answer);
-    drop(answer);
-    Written { status, last }
+    Written {
+        status,
+        last: last_of(answer),
+    }
 }
 
 /// Writes what is printed. The status is that of it, or 2 where not all was written.
@@ -150,11 +151,11 @@ fn make_calls(
     rt: &(impl Threads + Sync),
     alloc: Global,
     book: &mut Book,
-    rows: &[Row],
+    rows: Vec<Row>,
 ) -> Result<(), AllocError>
     requires new { book.old.history ≡ [] }
-    requires pass { AllPass book.old.day.holdings.pipeline (calls_of rows.now) }
-    ensures run { IfOk result (λ _. spec.IsRun book.old.day (calls_of rows.now) book.new.history) }
+    requires pass { AllPass book.old.day.holdings.pipeline (calls_of rows.items) }
+    ensures run { IfOk result (λ _. spec.IsRun book.old.day (calls_of rows.items) book.new.history) }
     ensures day { book.new.day ≡ book.old.day }
 {
     let board = Board::new(alloc);
@@ -168,12 +169,12 @@ fn print_behind(
     rt: &(impl Threads + Sync),
     alloc: Global,
     book: &mut Book,
-    rows: &[Row],
+    rows: Vec<Row>,
     inquiry: Inquiry,
 ) -> Result<Printed, AllocError>
     requires new { book.old.history ≡ [] }
-    requires pass { AllPass book.old.day.holdings.pipeline (calls_of rows.now) }
-    ensures { IfOk result (λ it. spec.PrintsBehind book.old.day (calls_of rows.now) inquiry (string_bytes it.text) it.status) }
+    requires pass { AllPass book.old.day.holdings.pipeline (calls_of rows.items) }
+    ensures { IfOk result (λ it. spec.PrintsBehind book.old.day (calls_of rows.items) inquiry (string_bytes it.text) it.status) }
 {
     make_calls(rt, alloc, book, rows)?;
     print_inquiry(alloc, book.replay()?, inquiry)
@@ -183,13 +184,13 @@ fn print_behind(
 fn ask_rows<W: Write>(
     rt: &(impl Threads + Sync),
     alloc: Global,
-    rows: &[Row],
+    rows: Vec<Row>,
     inquiry: Inquiry,
     writer: &mut W,
 ) -> Written
-    ensures { spec.AsksRows rows.now inquiry (W.contents writer.old) (W.contents writer.new) result.status }
+    ensures { spec.AsksRows rows.items inquiry (W.contents writer.old) (W.contents writer.new) result.status }
 {
-    match open_book(alloc, rows) {
+    match open_book(alloc, rows.as_slice()) {
         Ok(mut book) => {
             let printed = print_behind(rt, alloc, &mut book, rows, inquiry);
             drop(book);
@@ -212,7 +213,7 @@ pub fn ask_text<W: Write>(
     ensures { spec.AsksText text.now inquiry (W.contents writer.old) (W.contents writer.new) result.status }
 {
     match rows_in(alloc, Form::Day, text) {
-        Ok(rows) => ask_rows(rt, alloc, rows.as_slice(), inquiry, writer),
+        Ok(rows) => ask_rows(rt, alloc, rows, inquiry, writer),
         Err(fault) => write_rows(alloc, writer, of_fault(alloc, fault)),
     }
 }

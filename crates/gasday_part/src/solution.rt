@@ -137,15 +137,15 @@ fn moved(reply: Reply, before: u64, more: u64) -> Reply
 /// All that is told, with the rows of a head counted in.
 fn all_moved(
     alloc: Global,
-    replies: &[Reply],
+    replies: Vec<Reply>,
     before: u64,
     more: u64,
 ) -> Result<Vec<Reply>, AllocError>
-    ensures { IfOk result (λ v. v.items ≡ map (spec.moved before more) replies.now) }
+    ensures { IfOk result (λ v. v.items ≡ map (spec.moved before more) replies.items) }
 {
-    let mut all = Vec::new(alloc);
-    'replies: for reply in replies {
-        all.push(moved(*reply, before, more))?;
+    let mut all = Vec::with_capacity(alloc, replies.len())?;
+    for reply in replies {
+        all.push(moved(reply, before, more))?;
     }
     Ok(all)
 }
@@ -160,8 +160,9 @@ fn judged(alloc: Global, rows: &[Row], head: &[u8], told: Answer) -> Result<Answ
     let before = rows.len() as u64;
     if told.status != 0 {
         let more = row_count(head) as u64;
-        let replies = all_moved(alloc, told.replies.as_slice(), before, more)?;
-        return Ok(Answer::whole(replies, told.status));
+        let status = told.status;
+        let replies = all_moved(alloc, told.replies, before, more)?;
+        return Ok(Answer::whole(replies, status));
     }
     let wanted = text_of(alloc, told.replies.as_slice())?;
     if head == wanted.as_bytes() {

@@ -1,13 +1,13 @@
 -- Calls that are made one after the other.
 use Rattle.std.specs.Prelude.{OnErr}
-use Rattle.std.proofs.Common.{Result, Ok, Err, ◌≡◌, ℕ, zero, suc, ◌+◌, ◌-◌, ◌<◌, ◌≤◌, List, [], ◌∷◌, ◌++◌, length, take, drop, get_or, Some, None, refl, sym, ap, ◌∙◌, subst, arith}
-use Rattle.std.proofs.lemmas.List.{append_assoc, append-nil}
+use Rattle.std.proofs.Common.{Result, Ok, Err, ◌≡◌, ℕ, zero, suc, ◌+◌, List, [], ◌∷◌, ◌++◌, length, reverse, take, drop, Some, None, refl, sym, ap, ◌∙◌, subst}
+use Rattle.std.proofs.lemmas.List.{append_assoc, append-nil, reverse-append}
 use Rattle.gd_system.specs.Pipeline.{Pipeline}
 use Rattle.gd_text_part.specs.declared.row.EventRow.{EventRow}
 use Rattle.gd_text_part.specs.declared.row.Row.{Row}
-use Rattle.gd_day.specs.Calls.{Call, event_of, calls_of}
+use Rattle.gd_day.specs.Calls.{Call, event_of, calls_after, calls_of}
 use Rattle.gd_day.specs.Groups.{Passes, AllPass}
-use Rattle.gd_day.proofs.CallGroups.{calls_left, call_at, passes_over, comes_to, none_left}
+use Rattle.gd_day.proofs.CallGroups.{no_call, a_call}
 use Rattle.gd_machine.specs.Day.{Day}
 use Rattle.gd_machine.specs.Headline.{Holds}
 use Rattle.gd_machine.specs.History.{History}
@@ -53,47 +53,59 @@ passes_next p zero (d ∷ calls) c rest all h = let same : d ≡ c = cc in subst
 passes_next p (suc n) [] c rest all h = cc
 passes_next p (suc n) (d ∷ calls) c rest all h = passes_next p n calls c rest all.1 h
 
--- The calls of rows before the row `at`, of which the group of the next one began at `start`, were made: what is told of them is
--- `told`, and the history is `after`.
-pub record IsAt (day : Day) (h : History) (rows : List Row) (start at : ℕ) (told : List Reply) (after : History) : Type 0 where
+-- Of the calls of these rows those were made that don't stand in what is left, and before that stands `group`, the rows of the next
+-- one so far: what is told of them is `told`, and the history is `after`.
+pub record IsAt (day : Day) (h : History) (rows group left : List Row) (told : List Reply) (after : History) : Type 0 where
   pub made : ℕ
+  pub first : ℕ
   pub run : Runs day h (take made (calls_of rows)) told after
-  pub left : drop made (calls_of rows) ≡ calls_left rows start at
-  pub begun : start ≤ at
+  pub next : drop made (calls_of rows) ≡ calls_after first group left
 
-pub begin : (day : Day) (h : History) (rows : List Row) (told : List Reply) → told ≡ [] → IsAt day h rows 0 0 told h
-begin day h rows told none = record { made = 0; run = (none, refl); left = refl; begun = omega arith }
+pub begin : (day : Day) (h : History) (rows group left : List Row) (told : List Reply) → told ≡ [] → group ≡ [] → left ≡ rows → IsAt day h rows group left told h
+begin day h rows group left told none empty all = record {
+  made = 0;
+  first = 1;
+  run = (none, refl);
+  next = sym (ap (λ (g : List Row). calls_after 1 g left) empty ∙ ap (λ (l : List Row). calls_after 1 [] l) all);
+}
 
-module _ (day : Day) (h : History) (rows : List Row) (start at : ℕ) (told : List Reply) (between : History) (r : Row) (k : at < length rows) (e : r ≡ get_or rows at r) (here : IsAt day h rows start at told between) where
+-- Rows lie from the last to the first: the last of them is the next row.
+pub turned : (rows left : List Row) (r : Row) → rows ≡ left ++ r ∷ [] → reverse rows ≡ r ∷ reverse left
+turned rows left r is = ap reverse is ∙ reverse-append left (r ∷ [])
+
+module _ (day : Day) (h : History) (rows group left : List Row) (told : List Reply) (between : History) (r : Row) (here : IsAt day h rows group (r ∷ left) told between) where
   -- the row is no call
-  pub passed_over : event_of r ≡ None → IsAt day h rows start (at + 1) told between
+  pub passed_over : event_of r ≡ None → IsAt day h rows (group ++ r ∷ []) left told between
   passed_over other = record {
     made = here.made;
+    first = here.first;
     run = here.run;
-    left = here.left ∙ passes_over rows start at r here.begun k e other;
-    begun = omega (arith, here.begun);
+    next = here.next ∙ no_call here.first group r left other;
   }
 
-  next_call : (event : EventRow) → event_of r ≡ Some event → drop here.made (calls_of rows) ≡ call_at rows start at event ∷ calls_left rows (at + 1) (at + 1)
-  next_call event is = here.left ∙ comes_to rows start at r here.begun k e event is
+  abbrev the_call : EventRow → Call
+  the_call event = record { group = group; first = here.first; event = event }
+
+  next_call : (event : EventRow) → event_of r ≡ Some event → drop here.made (calls_of rows) ≡ the_call event ∷ calls_after (here.first + length group + 1) [] left
+  next_call event is = here.next ∙ a_call here.first group r left event is
 
   -- the row is a call, whose group can be made
-  pub can_be_made : (p : Pipeline) (event : EventRow) → event_of r ≡ Some event → AllPass p (calls_of rows) → Passes p (take (at - start) (drop start rows))
-  can_be_made p event is all = passes_next p here.made (calls_of rows) (call_at rows start at event) (calls_left rows (at + 1) (at + 1)) all (next_call event is)
+  pub can_be_made : (p : Pipeline) (event : EventRow) → event_of r ≡ Some event → AllPass p (calls_of rows) → Passes p group
+  can_be_made p event is all = passes_next p here.made (calls_of rows) (the_call event) (calls_after (here.first + length group + 1) [] left) all (next_call event is)
 
   -- and it was made
   pub went_on : (event : EventRow) (front new : List Reply) (after : History) → event_of r ≡ Some event
-      → RowGives day between (take (at - start) (drop start rows)) event front after → new ≡ told ++ front → IsAt day h rows (at + 1) (at + 1) new after
+      → RowGives day between group event front after → new ≡ told ++ front → IsAt day h rows [] left new after
   went_on event front new after is gave so =
-      let c = call_at rows start at event in
-      let next = taken_next here.made (calls_of rows) c (calls_left rows (at + 1) (at + 1)) (next_call event is) in
+      let c = the_call event in
+      let later = taken_next here.made (calls_of rows) c (calls_after (here.first + length group + 1) [] left) (next_call event is) in
       record {
         made = suc here.made;
-        run = subst (λ (l : List Call). Runs day h l new after) (sym next.0)
+        first = here.first + length group + 1;
+        run = subst (λ (l : List Call). Runs day h l new after) (sym later.0)
             (subst (λ (l : List Reply). Runs day h (take here.made (calls_of rows) ++ c ∷ []) l after) (sym so)
             (runs_more day h (take here.made (calls_of rows)) c told front between after here.run gave));
-        left = next.1;
-        begun = omega arith;
+        next = later.1;
       }
 
 all_taken : {A : Type 0} (n : ℕ) (xs : List A) → drop n xs ≡ [] → take n xs ≡ xs
@@ -103,13 +115,14 @@ all_taken (suc n) [] h = refl
 all_taken (suc n) (x ∷ xs) h = ap (λ l. x ∷ l) (all_taken n xs h)
 
 -- no row is left
-pub ran_all : (day : Day) (h : History) (rows : List Row) (start at : ℕ) (told : List Reply) (after : History) → length rows ≤ at → IsAt day h rows start at told after → Runs day h (calls_of rows) told after
-ran_all day h rows start at told after k here =
-    subst (λ (l : List Call). Runs day h l told after) (all_taken here.made (calls_of rows) (here.left ∙ none_left rows start at k)) here.run
+pub ran_all : (day : Day) (h : History) (rows group left : List Row) (told : List Reply) (after : History) → left ≡ [] → IsAt day h rows group left told after → Runs day h (calls_of rows) told after
+ran_all day h rows group left told after none here =
+    let over = here.next ∙ ap (λ (l : List Row). calls_after here.first group l) none in
+    subst (λ (l : List Call). Runs day h l told after) (all_taken here.made (calls_of rows) over) here.run
 
 -- what was made so far
-pub ran_so_far : (day : Day) (h : History) (rows : List Row) (start at : ℕ) (told : List Reply) (after : History) → IsAt day h rows start at told after → Holds day after → RunsInPart day h (calls_of rows) told
-ran_so_far day h rows start at told after here holds = (here.made, after, here.run, holds)
+pub ran_so_far : (day : Day) (h : History) (rows group left : List Row) (told : List Reply) (after : History) → IsAt day h rows group left told after → Holds day after → RunsInPart day h (calls_of rows) told
+ran_so_far day h rows group left told after here holds = (here.made, after, here.run, holds)
 
 -- what holds where memory ran out
 pub in_part : {X E : Type 0} (r : Result X E) (P : Type 0) → P → OnErr r P

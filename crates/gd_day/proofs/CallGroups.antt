@@ -16,11 +16,13 @@ use Rattle.gd_day.specs.Groups.{checked, checked_group, checked_calls, Passes, A
 use Rattle.gd_text.proofs.Building.{left}
 use Rattle.gd_day.proofs.RowNumbers.{prices_whatever, members_whatever}
 
-no_call : (first : ℕ) (group : List Row) (r : Row) (rows : List Row) → event_of r ≡ None → calls_after first group (r ∷ rows) ≡ calls_after first (group ++ r ∷ []) rows
+-- a row that is no call goes into the group
+pub no_call : (first : ℕ) (group : List Row) (r : Row) (rows : List Row) → event_of r ≡ None → calls_after first group (r ∷ rows) ≡ calls_after first (group ++ r ∷ []) rows
 no_call first group (row.Event event) rows h = cc
 no_call first group r rows h = refl
 
-a_call : (first : ℕ) (group : List Row) (r : Row) (rows : List Row) (event : EventRow) → event_of r ≡ Some event
+-- a call ends it
+pub a_call : (first : ℕ) (group : List Row) (r : Row) (rows : List Row) (event : EventRow) → event_of r ≡ Some event
     → calls_after first group (r ∷ rows) ≡ record { group = group; first = first; event = event } ∷ calls_after (first + length group + 1) [] rows
 a_call first group (row.Event e) rows event h =
     let same : e ≡ event = cc in
@@ -49,14 +51,14 @@ abbrev pub call_at : List Row → ℕ → ℕ → EventRow → Call
 call_at rows start at event = record { group = take (at - start) (drop start rows); first = start + 1; event = event }
 
 module _ (rows : List Row) (start at : ℕ) (r : Row) (b : start ≤ at) (h : at < length rows) (e : r ≡ get_or rows at r) where
-  -- a row that is no call goes into the group
+  -- the same by the rows' places
   pub passes_over : event_of r ≡ None → calls_left rows start at ≡ calls_left rows start (at + 1)
   passes_over other =
       ap (λ (l : List Row). calls_after (start + 1) (take (at - start) (drop start rows)) l) (left rows at r h e)
       ∙ no_call (start + 1) (take (at - start) (drop start rows)) r (drop (at + 1) rows) other
       ∙ ap (λ (g : List Row). calls_after (start + 1) g (drop (at + 1) rows)) (sym (group_grows rows start at r b h e))
 
-  -- a call ends it, and the next group begins behind it
+  -- and the next group begins behind it
   pub comes_to : (event : EventRow) → event_of r ≡ Some event → calls_left rows start at ≡ call_at rows start at event ∷ calls_left rows (at + 1) (at + 1)
   comes_to event is =
       let group : List Row = take (at - start) (drop start rows) in

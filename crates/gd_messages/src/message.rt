@@ -134,13 +134,13 @@ fn words_of(reply: &Reply) -> Option<&'static str> {
         | Reply::ReceiptDone { .. }
         | Reply::ReceiptRefused { .. }
         | Reply::Slot(_)
-        | Reply::Sound { .. }
+        | Reply::Sound(_)
         | Reply::UnsoundBumps { .. }
         | Reply::UncheckedBumps { .. }
         | Reply::Migrated(_)
         | Reply::Opened { .. }
         | Reply::Replayed { .. }
-        | Reply::Carry { .. } => None,
+        | Reply::Carry(_) => None,
     }
 }
 

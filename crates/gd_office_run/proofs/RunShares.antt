@@ -1,5 +1,6 @@
 -- The shares of slots in one phase more.
-use Rattle.std.proofs.Common.{◌≡◌, ◌∙◌, ℕ, ◌+◌, List, [], ◌∷◌, ◌++◌, sym, ap, append_assoc}
+use Rattle.std.proofs.Common.{◌≡◌, ◌∙◌, ℕ, ◌+◌, List, [], ◌∷◌, ◌++◌, length, refl, sym, ap, append_assoc}
+use Rattle.std.specs.List.{range_with_len}
 use Rattle.std.proofs.lemmas.List.{append-nil}
 use Rattle.gd_desk.specs.declared.desk.Desk.{Desk}
 use Rattle.gd_office_part.specs.declared.kept.Receipt.{Receipt}
@@ -7,9 +8,10 @@ use Rattle.gd_office_part.specs.declared.numbers.Numbers.{Numbers}
 use Rattle.gd_office_part.specs.declared.threads.Phase.{Phase}
 use Rattle.gd_office_part.specs.declared.threads.SessionRows.{SessionRows}
 use Rattle.gd_office_run.specs.declared.holding.Holding.{Holding}
-use Rattle.gd_office_run.specs.Shares.{Share, nothing, plus, of_sessions, of_desk, IsOf, Gains}
+use Rattle.gd_office_run.specs.Shares.{Share, nothing, plus, of_sessions, of_desk, slots_of, IsOf, Gains}
+use Rattle.gd_office_run.proofs.Picking.{pick_by_slots}
 use Rattle.gd_office_run.proofs.Shares.{share_is}
-use Rattle.gd_office_run.specs.Runs.{Outcome}
+use Rattle.gd_office_run.specs.Runs.{Outcome, counts_of}
 use Rattle.gd_office_run.specs.RunShares.{of_desks, share_in, share_of, Holds}
 
 pub plus_assoc : (a b c : Share) → plus (plus a b) c ≡ plus a (plus b c)
@@ -39,6 +41,17 @@ sessions_are k rows rows₁ counts counts₁ lists numbers numbers₁ same_rows 
     ap (λ (r : List SessionRows). of_sessions k r counts lists numbers) same_rows
     ∙ ap (λ (c : List Numbers). of_sessions k rows₁ c lists numbers) same_counts
     ∙ ap (λ (n : List ℕ). of_sessions k rows₁ counts₁ lists n) same_numbers
+
+-- the share of a slot in a phase, by the slots of its sessions alone
+pub share_by_slots : (first : ℕ) (p other : Phase) (lists : List (List Receipt)) (desks : List Desk) (k : ℕ) → slots_of p ≡ slots_of other
+    → share_in first p lists desks k ≡ share_in first other lists desks k
+share_by_slots first p other lists desks k same =
+    let numbers = range_with_len first (length lists) in
+    ap (λ (s : Share). plus s (of_desks 0 desks k))
+    (share_is (of_sessions k p.sessions.items (counts_of lists) lists numbers) (of_sessions k other.sessions.items (counts_of lists) lists numbers)
+    (pick_by_slots k p.sessions.items other.sessions.items (counts_of lists) same)
+    (pick_by_slots k p.sessions.items other.sessions.items lists same)
+    (pick_by_slots k p.sessions.items other.sessions.items numbers same) refl)
 
 share_more : (os : List Outcome) (o : Outcome) (k : ℕ)
     → share_of (os ++ o ∷ []) k ≡ plus (share_of os k) (share_in o.first o.phase o.lists o.desks k)

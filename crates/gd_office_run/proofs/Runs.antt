@@ -1,7 +1,7 @@
 -- One phase more.
-use Rattle.std.proofs.Common.{◌≡◌, ◌∙◌, ℕ, ◌+◌, ◌<◌, zero, suc, List, [], ◌∷◌, ◌++◌, length, take, get_or, sym, subst, ap, arith, vec_len, Result, Ok, Err, OnErr}
+use Rattle.std.proofs.Common.{◌≡◌, ◌∙◌, ℕ, ◌+◌, zero, suc, List, [], ◌∷◌, ◌++◌, length, take, sym, subst, ap, arith, vec_len, Result, Ok, Err, OnErr}
 use Rattle.std.specs.List.{sum_by, range_with_len}
-use Rattle.std.proofs.lemmas.List.{map-append, take_more, take_all, append-nil}
+use Rattle.std.proofs.lemmas.List.{map-append, take-append-le, take_all, append-nil}
 use Rattle.std.proofs.lemmas.List.Sums.{sum_by-append}
 use Rattle.std.proofs.lemmas.List.Elements.{All-push}
 use Rattle.std.proofs.lemmas.Grind.{flat_map-append}
@@ -10,8 +10,6 @@ use Rattle.gd_machine.specs.Day.{Day}
 use Rattle.gd_office_part.specs.declared.kept.Receipt.{Receipt}
 use Rattle.gd_office_part.specs.declared.threads.Phase.{Phase}
 use Rattle.gd_office_run.specs.Runs.{Outcome, Gives, HasGiven, AreNumbered, IsRun, outcome_rows, phase_rows, run_rows}
-use Rattle.gd_office_run.specs.declared.holding.Holding.{Holding}
-use Rattle.gd_office_run.specs.RunShares.{HoldsRun}
 use Rattle.gd_office_run.specs.RunRows.{EndsEarly}
 use Rattle.gd_replies.specs.declared.reply.Reply.{Reply}
 
@@ -29,13 +27,12 @@ numbered_more (x ∷ os) first o all here =
 pub sessions_more : (os : List Outcome) (o : Outcome) → sessions_in (os ++ o ∷ []) ≡ sessions_in os + vec_len o.phase.sessions
 sessions_more os o = omega (arith, sum_by-append (λ (y : Outcome). vec_len y.phase.sessions) os (o ∷ []))
 
-pub run_at : (known : List Day) (slots : ℕ) (phases : List Phase) (i : ℕ) (p : Phase) (first : ℕ) (lists : List (List Receipt)) (desks : List Desk) (os : List Outcome)
-    → i < length phases → p ≡ get_or phases i p → IsRun known slots (take i phases) os → Gives known slots p lists desks → first ≡ 1 + sessions_in os
-    → IsRun known slots (take (i + 1) phases) (os ++ record { first = first; phase = p; lists = lists; desks = desks } ∷ [])
-run_at known slots phases i p first lists desks os below is run gives number =
-    let o : Outcome = record { first = first; phase = p; lists = lists; desks = desks } in
-    let more : take (i + 1) phases ≡ take i phases ++ p ∷ [] = take_more phases i p below ∙ ap (λ (x : Phase). take i phases ++ x ∷ []) (sym is) in (
-      map-append (λ (x : Outcome). x.phase) os (o ∷ []) ∙ ap (λ (ps : List Phase). ps ++ p ∷ []) run.0 ∙ sym more,
+pub run_more : (known : List Day) (slots : ℕ) (phases : List Phase) (p : Phase) (first : ℕ) (lists : List (List Receipt)) (desks : List Desk) (os : List Outcome)
+    → IsRun known slots phases os → Gives known slots p lists desks → first ≡ 1 + sessions_in os
+    → IsRun known slots (phases ++ p ∷ []) (os ++ record { first = first; phase = p; lists = lists; desks = desks } ∷ [])
+run_more known slots phases p first lists desks os run gives number =
+    let o : Outcome = record { first = first; phase = p; lists = lists; desks = desks } in (
+      map-append (λ (x : Outcome). x.phase) os (o ∷ []) ∙ ap (λ (ps : List Phase). ps ++ p ∷ []) run.0,
       numbered_more os 1 o run.1 number,
       All-push (HasGiven known slots) os o run.2 gives,
     )
@@ -58,11 +55,12 @@ range_more a (suc n) =
     ap (range_with_len a) next
     ∙ ap (λ (l : List ℕ). a ∷ l) (range_more (a + 1) n ∙ ap (λ (m : ℕ). range_with_len (a + 1) n ++ m ∷ []) same)
 
--- a run that is told and held, without its ends
-pub early : {J : Type 0} (known : List Day) (slots : ℕ) (phases : List Phase) (rows after : List Reply) (holding : Holding J) → HoldsRun known slots phases rows holding → after ≡ rows
-    → EndsEarly known slots phases after
-early known slots phases rows after holding holds same =
-    (length phases, holds.0, subst (λ (ps : List Phase). IsRun known slots ps holds.0) (sym (take_all (length phases) phases (omega arith))) holds.1, same ∙ holds.2)
+-- a run of the first of these phases, which is told
+pub early : (known : List Day) (slots : ℕ) (phases done left : List Phase) (os : List Outcome) (rows : List Reply) → done ++ left ≡ phases → IsRun known slots done os → rows ≡ run_rows os
+    → EndsEarly known slots phases rows
+early known slots phases done left os rows all run told =
+    let first : take (length done) phases ≡ done = ap (take (length done)) (sym all) ∙ take-append-le (length done) done left (omega arith) ∙ take_all (length done) done (omega arith) in
+    (length done, os, subst (λ (ps : List Phase). IsRun known slots ps os) (sym first) run, told)
 
 pub on_err : {T E : Type 0} (r : Result T E) (P : Type 0) → P → OnErr r P
 on_err (Ok x) P p = tt

@@ -4,6 +4,7 @@ use Rattle.std.specs.Global.{Vec}
 use Rattle.gd_machine.specs.Day.{Day}
 use Rattle.gd_office_part.specs.declared.kept.Receipt.{Receipt}
 use Rattle.gd_office_part.specs.declared.numbers.Numbers.{Numbers}
+use Rattle.gd_office_part.specs.declared.threads.Phase.{Phase}
 use Rattle.gd_office_part.specs.declared.threads.SessionRows.{SessionRows}
 use Rattle.gd_office_part.specs.Sending.{lists_of}
 use Rattle.gd_office_run.specs.declared.end.End.{End}
@@ -45,6 +46,10 @@ IsOf slots holding =
 -- Each of so many slots gains a share.
 abbrev pub Gains : {J : Type 0} → ℕ → Holding J → Holding J → (ℕ → Share) → Type 0
 Gains slots old new more = (k : ℕ) → k < slots → share_at new k ≡ plus (share_at old k) (more k)
+
+-- The slots of a phase's sessions, by their places.
+abbrev pub slots_of : Phase → List ℕ
+slots_of p = map (λ s. s.slot) p.sessions.items
 
 -- The share of slot k in the sessions of a phase.
 abbrev pub of_sessions : ℕ → List SessionRows → List Numbers → List (List Receipt) → List ℕ → Share

@@ -10,7 +10,7 @@ ghost use Rattle.gd_office_run.specs.Shares.{IsOf};
 use crate::end::End;
 use crate::fault::RunFault;
 use crate::holding::{Holding, end_slots};
-use crate::phase::{hold, rows_of, run_phase};
+use crate::phase::{hold, rows_of, run_phase, without_calls};
 use gd_desk::Gate;
 use gd_office::Office;
 use gd_office_part::{Days, Phase};
@@ -41,7 +41,8 @@ fn tell(rows: &mut Vec<Reply>, told: Vec<Reply>) -> Result<(), AllocError>
     rows.append(&mut told)
 }
 
-/// Runs a phase whose first session has this number, tells it, and holds what it gave.
+/// Runs a phase whose first session has this number, tells it, and holds what it gave. Of its calls nothing is left when their
+/// receipts are told, which have them too.
 fn take_phase<'o, R: Threads + Wait + Clock + Sync, G: Gate + Sync, J: Days + Send + Sync>(
     rt: &R,
     alloc: Global,
@@ -49,18 +50,19 @@ fn take_phase<'o, R: Threads + Wait + Clock + Sync, G: Gate + Sync, J: Days + Se
     gate: &G,
     holding: &mut Holding<'o, J>,
     first: u64,
-    phase: &Phase,
+    phase: Phase,
     rows: &mut Vec<Reply>,
 ) -> Result<(), RunFault>
     requires first { first ≤ 2 ^ 62 }
     requires holding { IsOf (len_of office.now.slots.items) holding.old }
-    ensures ok { OnOk result (shares.Adds J.days (len_of office.now.slots.items) first phase.now
+    ensures ok { OnOk result (shares.Adds J.days (len_of office.now.slots.items) first phase
         rows.old.items holding.old rows.new.items holding.new) }
     ensures err { OnErr result (rows.new.items ≡ rows.old.items) }
 {
-    let given = run_phase(rt, alloc, office, phase, gate)?;
+    let given = run_phase(rt, alloc, office, &phase, gate)?;
+    let phase = without_calls(alloc, phase)?;
     let told = rows_of(alloc, first, &given)?;
-    hold(alloc, holding, first, phase, given)?;
+    hold(alloc, holding, first, &phase, given)?;
     tell(rows, told)?;
     Ok(())
 }
@@ -70,21 +72,21 @@ fn run_phases<'o, R: Threads + Wait + Clock + Sync, G: Gate + Sync, J: Days + Se
     rt: &R,
     alloc: Global,
     office: &'o Office<J>,
-    phases: &[Phase],
+    phases: Vec<Phase>,
     gate: &G,
     holding: &mut Holding<'o, J>,
     rows: &mut Vec<Reply>,
 ) -> Result<(), RunFault>
     requires holding { shares.Holds (len_of office.now.slots.items) holding.old [] }
     requires empty { rows.old.items ≡ [] }
-    ensures ok { OnOk result (shares.HoldsRun J.days (len_of office.now.slots.items) phases.now
+    ensures ok { OnOk result (shares.HoldsRun J.days (len_of office.now.slots.items) phases.items
         rows.new.items holding.new) }
-    ensures err { OnErr result (spec_told.EndsEarly J.days (len_of office.now.slots.items) phases.now
+    ensures err { OnErr result (spec_told.EndsEarly J.days (len_of office.now.slots.items) phases.items
         rows.new.items) }
 {
     let mut first: u64 = 1;
     for phase in phases {
-        let Some(next) = next_number(first, phase) else {
+        let Some(next) = next_number(first, &phase) else {
             return Err(RunFault::TooMany);
         };
         take_phase(rt, alloc, office, gate, holding, first, phase, rows)?;
@@ -136,28 +138,6 @@ fn all_reconciled(ends: &[End]) -> bool
     true
 }
 
-/// Ends the slots of a run that is told and held, and tells that behind it. Answers whether all slots are reconciled.
-fn end_run<'o, R: Wait, J: Days>(
-    rt: &R,
-    alloc: Global,
-    office: &'o Office<J>,
-    phases: &[Phase],
-    holding: Holding<'o, J>,
-    rows: &mut Vec<Reply>,
-) -> Result<bool, RunFault>
-    requires { shares.HoldsRun J.days (len_of office.now.slots.items) phases.now rows.old.items holding }
-    ensures ok { IfOk result (spec_told.TellsRun J.days (len_of office.now.slots.items) phases.now
-        rows.new.items) }
-    ensures err { OnErr result (spec_told.EndsEarly J.days (len_of office.now.slots.items) phases.now
-        rows.new.items) }
-{
-    let _ = phases;
-    let ends = end_slots(rt, alloc, office.slots(), holding)?;
-    let mut last = ends_replies(alloc, ends.as_slice())?;
-    rows.append(&mut last)?;
-    Ok(all_reconciled(ends.as_slice()))
-}
-
 /// Runs phases in order: in each the calls of its sessions, each session in a thread of its own, and when all have ended the
 /// round of the desks. Then it closes the sessions of each slot, and holds all receipts that were given against its book.
 /// `told`, which is empty, gets the rows that tell this: the receipts by session and the desks by slot for each phase, and
@@ -171,17 +151,20 @@ pub fn run<R: Threads + Wait + Clock + Sync, G: Gate + Sync, J: Days + Send + Sy
     rt: &R,
     alloc: Global,
     office: &Office<J>,
-    phases: &[Phase],
+    phases: Vec<Phase>,
     gate: &G,
     told: &mut Vec<Reply>,
 ) -> Result<bool, RunFault>
     requires { told.old.items ≡ [] }
-    ensures ok { IfOk result (spec_told.TellsRun J.days (len_of office.now.slots.items) phases.now
+    ensures ok { IfOk result (spec_told.TellsRun J.days (len_of office.now.slots.items) phases.items
         told.new.items) }
-    ensures err { OnErr result (spec_told.EndsEarly J.days (len_of office.now.slots.items) phases.now
+    ensures err { OnErr result (spec_told.EndsEarly J.days (len_of office.now.slots.items) phases.items
         told.new.items) }
 {
     let mut holding = Holding::new(alloc, office.slots().len())?;
     run_phases(rt, alloc, office, phases, gate, &mut holding, told)?;
-    end_run(rt, alloc, office, phases, holding, told)
+    let ends = end_slots(rt, alloc, office.slots(), holding)?;
+    let mut last = ends_replies(alloc, ends.as_slice())?;
+    told.append(&mut last)?;
+    Ok(all_reconciled(ends.as_slice()))
 }

@@ -6,7 +6,7 @@ ghost use Rattle.gd_office_part.specs.Sending.{lists_of};
 ghost use Rattle.gd_office_run.specs.Desks.{IsEndShaped};
 ghost use Rattle.gd_office_run.specs.Runs as spec;
 ghost use Rattle.gd_office_run.specs.RunShares as shares;
-ghost use Rattle.gd_office_run.specs.Shares.{IsOf, Gains};
+ghost use Rattle.gd_office_run.specs.Shares.{IsOf, Gains, slots_of};
 
 use crate::desks::{desks_of, hold_desks, push_desks};
 use crate::fault::RunFault;
@@ -15,7 +15,7 @@ use crate::opened::open_all;
 use crate::receipts::push_sessions;
 use gd_desk::{Desk, Gate, desk_round};
 use gd_office::Office;
-use gd_office_part::{Days, Phase, Receipt, Session, send};
+use gd_office_part::{Days, Phase, Receipt, Session, SessionRows, send};
 use gd_replies::Reply;
 use std::alloc::{AllocError, Global};
 use std::sync::Wait;
@@ -57,6 +57,24 @@ pub(crate) fn run_phase<
         sessions,
         lists,
         desks,
+    })
+}
+
+/// A phase of whose calls nothing is left. The only error is want of memory.
+pub(crate) fn without_calls(alloc: Global, phase: Phase) -> Result<Phase, AllocError>
+    ensures slots { IfOk result (λ left. slots_of left ≡ slots_of phase) }
+    ensures len { IfOk result (λ left. vec_len left.sessions ≡ vec_len phase.sessions) }
+{
+    let Phase { sessions, moment } = phase;
+    let mut left = Vec::with_capacity(alloc, sessions.len())?;
+    for session in sessions {
+        let SessionRows { slot, party, .. } = session;
+        let calls = Vec::new(alloc);
+        left.push(SessionRows { slot, party, calls })?;
+    }
+    Ok(Phase {
+        sessions: left,
+        moment,
     })
 }
 

@@ -13,8 +13,10 @@ use Rattle.gd_text_part.specs.Causes.{fault_row, fault_name, fault_detail}
 use Rattle.gd_text_part.specs.declared.row.TheConstants.{FIELD_COUNT}
 use Rattle.gd_text_part.specs.declared.row.Member.{Member}
 use Rattle.gd_text_part.specs.declared.row.Member.TheVariants as member
+use Rattle.gd_replies.specs.declared.reply.CarriedLine.{CarriedLine}
 use Rattle.gd_replies.specs.declared.reply.Reply.{Reply}
 use Rattle.gd_replies.specs.declared.reply.Reply.TheVariants as reply
+use Rattle.gd_replies.specs.declared.reply.SoundPosting.{SoundPosting}
 
 -- the fields, and empty ones behind them up to a whole row
 abbrev pub whole : List (List ℕ) → List (List ℕ)
@@ -43,6 +45,13 @@ spread_field spread = if unsigned_abs spread == 0 then [] else signed_decimal sp
 abbrev pub uncertified_fields : CertFault → List ℕ → List (List ℕ)
 uncertified_fields fault item =
     codes "refused" ∷ codes "publish" ∷ codes "3" ∷ codes "Certificate" ∷ cert_fault_name fault ∷ item ∷ []
+
+abbrev pub sound_fields : SoundPosting → List (List ℕ)
+sound_fields p =
+    codes "sound" ∷ p.book ∷ decimal p.cycle ∷ decimal p.round ∷ decimal p.rule ∷ decimal p.lines ∷ decimal p.quantity ∷ encode_lower p.sum ∷ []
+
+abbrev pub carry_fields : CarriedLine → List (List ℕ)
+carry_fields l = codes "carry" ∷ l.contract ∷ l.«package» ∷ l.origin ∷ l.dest ∷ decimal l.quantity ∷ []
 
 abbrev pub fields_of : Reply → List (List ℕ)
 fields_of (reply.Fault f) = codes "fault" ∷ fault_row f ∷ fault_name f ∷ fault_detail f ∷ []
@@ -104,8 +113,7 @@ fields_of reply.Kept = codes "refused" ∷ codes "keep" ∷ codes "1" ∷ codes 
 fields_of (reply.Audited n) = codes "audited" ∷ decimal n ∷ []
 fields_of (reply.Damaged book cycle) = codes "unsound" ∷ book ∷ decimal cycle ∷ codes "Damaged" ∷ []
 fields_of (reply.Unsound book cycle fault) = codes "unsound" ∷ book ∷ decimal cycle ∷ cert_fault_name fault ∷ []
-fields_of (reply.Sound book cycle round rule lines quantity sum) =
-    codes "sound" ∷ book ∷ decimal cycle ∷ decimal round ∷ decimal rule ∷ decimal lines ∷ decimal quantity ∷ encode_lower sum ∷ []
+fields_of (reply.Sound posting) = sound_fields posting
 fields_of (reply.UnsoundBumps book cycle) = codes "unsound" ∷ book ∷ decimal cycle ∷ codes "Bumped" ∷ []
 fields_of (reply.UncheckedBumps book cycle) = codes "unchecked" ∷ book ∷ decimal cycle ∷ codes "Bumped" ∷ []
 fields_of (reply.Migrated n) = codes "migrated" ∷ decimal n ∷ []
@@ -119,8 +127,7 @@ fields_of (reply.Differs piece call) = codes "differs" ∷ decimal piece ∷ dec
 fields_of reply.Busy = codes "fault" ∷ codes "0" ∷ codes "Busy" ∷ []
 fields_of (reply.Full n) = codes "fault" ∷ decimal n ∷ codes "TooLong" ∷ []
 fields_of reply.NeverFrozen = codes "refused" ∷ codes "question" ∷ codes "1" ∷ codes "NotFrozen" ∷ []
-fields_of (reply.Carry contract pack origin dest quantity) =
-    codes "carry" ∷ contract ∷ pack ∷ origin ∷ dest ∷ decimal quantity ∷ []
+fields_of (reply.Carry line) = carry_fields line
 
 -- the bytes of a reply
 abbrev pub line_of : Reply → List ℕ

@@ -1,5 +1,5 @@
 -- What a reader of a history meets at a place.
-use Rattle.std.proofs.Common.{◌≡◌, ℕ, true, false, List, take, Some, None, Option, sym, subst, ap, ◌∙◌}
+use Rattle.std.proofs.Common.{◌≡◌, ℕ, false, List, take, Some, None, Option, sym, subst, ap, ◌∙◌}
 use Rattle.std.specs.Prelude.{slice_get}
 use Rattle.std.proofs.lemmas.Bool.{false≢true}
 use Rattle.gd_certificate.specs.Checked.{Certificate, IsRight}

@@ -17,7 +17,8 @@ abbrev pub in_effect : History → ℕ → ℕ
 in_effect h line = scheduled h line (cycle_of h - 1)
 
 abbrev pub carry_row : Key → ℕ → Reply
-carry_row key quantity = reply.Carry key.contract key.«package» key.origin key.dest quantity
+carry_row key quantity =
+    reply.Carry (record { contract = key.contract; «package» = key.«package»; origin = key.origin; dest = key.dest; quantity = quantity })
 
 -- each line, in the order of their numbers, with what it is scheduled
 abbrev pub carry_rows : Day → History → List Reply

@@ -11,7 +11,7 @@ ghost use Rattle.gd_rounds.specs.Carried as spec;
 
 use gd_book::{Event, Reply as BookReply};
 use gd_lines::LineKey;
-use gd_replies::Reply;
+use gd_replies::{Boxed, CarriedLine, Reply};
 use gd_units::Dth;
 use std::alloc::{AllocError, Global};
 
@@ -74,17 +74,18 @@ fn quantity_of(quantities: &[Dth], line: usize) -> Dth
     quantities.get(line).copied().unwrap_or(Dth::ZERO)
 }
 
-/// The row of a line.
-fn carry_row(key: &LineKey, quantity: Dth) -> Reply
-    ensures { result ≡ spec.carry_row key.now quantity }
+/// The row of a line. The only error is want of memory.
+fn carry_row(alloc: Global, key: &LineKey, quantity: Dth) -> Result<Reply, AllocError>
+    ensures { IfOk result (λ row. row ≡ spec.carry_row key.now quantity) }
 {
-    Reply::Carry {
+    let line = CarriedLine {
         contract: key.contract,
         package: key.package,
         origin: key.origin,
         dest: key.dest,
         quantity: quantity.get(),
-    }
+    };
+    Ok(Reply::Carry(Boxed::of(alloc, line)?))
 }
 
 /// Of each line of a legal history, in the order of their numbers, what it is carried over with to the next gas day: what it is
@@ -100,7 +101,8 @@ pub fn carry_replies(
     let quantities = last_published(history);
     let mut rows = Vec::with_capacity(alloc, keys.len())?;
     'lines: for (line, key) in keys.iter().enumerate() {
-        rows.push(carry_row(key, quantity_of(quantities, line)))?;
+        let row = carry_row(alloc, key, quantity_of(quantities, line))?;
+        rows.push(row)?;
     }
     Ok(rows)
 }

@@ -8,6 +8,6 @@ use Rattle.gasday_archive.proofs.day.run_and_keep.Goals as goal
 pub returns-in_err-status-clause-part : goal.returns-in_err-status-clause-part
 returns-in_err-status-clause-part g c =
     let b = c.args.book.now in
-    let calls = calls_of c.args.rows.now in
+    let calls = calls_of c.args.rows.items in
     part_of_all b.day calls c.run.new.told.items c.keep_published.new.told.items c.run.new.book.history c.from_residual-in_err-status.result
     (subst (λ (h : History). Runs b.day h calls c.run.new.told.items c.run.new.book.history) c.requires.new c.in_ok-run.ensures.ok) c.in_ok-run.ensures.holds c.in_err-status.ensures.untold

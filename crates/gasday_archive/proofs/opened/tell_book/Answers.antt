@@ -8,7 +8,7 @@ use Rattle.gasday_archive.proofs.opened.tell_book.Goals as goal
 pub returns-in_default : goal.returns-in_default
 returns-in_default g c = record {
   told = no_store;
-  means = subst (λ o. TellsOf g.S.Store (TellsMade g.S.Store c.args.is_strict c.args.book.now.day (calls_of c.args.rows.now)) o c.unopened.result.archive no_store) (sym c.in_default.is) (c.unopened.ensures.archive, refl);
+  means = subst (λ o. TellsOf g.S.Store (TellsMade g.S.Store c.args.is_strict c.args.book.now.day (calls_of c.args.rows.items)) o c.unopened.result.archive no_store) (sym c.in_default.is) (c.unopened.ensures.archive, refl);
   is = subst (λ r. IfOk r (λ a. answer_seen a ≡ no_store)) (sym c.unopened.ensures.answer) c.of_no_store.ensures;
 }
 
@@ -17,6 +17,6 @@ returns g c =
     let t = c.tell_in_archive-answer.ensures.made in
     record {
       told = t.told;
-      means = subst (λ o. TellsOf g.S.Store (TellsMade g.S.Store c.args.is_strict c.args.book.now.day (calls_of c.args.rows.now)) o (Some c.tell_in_archive-answer.new.conn) t.told) (sym c.in-Ok.is) t.means;
+      means = subst (λ o. TellsOf g.S.Store (TellsMade g.S.Store c.args.is_strict c.args.book.now.day (calls_of c.args.rows.items)) o (Some c.tell_in_archive-answer.new.conn) t.told) (sym c.in-Ok.is) t.means;
       is = t.is;
     }

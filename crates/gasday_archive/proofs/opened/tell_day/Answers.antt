@@ -11,12 +11,12 @@ use Rattle.gasday_archive.proofs.opened.tell_day.Goals as goal
 pub returns-in-Ok : goal.returns-in-Ok
 returns-in-Ok g c =
     let gives = g.O.Opener.opens c.args.opener in
-    let rows : List Row = c.as_slice.result.now in
+    let rows : List Row = c.in-Ok.rows.items in
     told_so (TellsDay g.S.Store gives c.args.is_strict rows (opened_of rows)) (TellsBytes g.S.Store gives c.args.is_strict c.args.text.now) c.tell_rows.result.archive c.tell_rows.result.answer
     (λ a t. inl (
       c.in-Ok.ensures.0,
       subst (λ (r : Result (List Row) RowFault). TellsRows g.S.Store gives c.args.is_strict r c.tell_rows.result.archive a) (sym c.in-Ok.ensures.1)
-          (subst (λ (all : List Row). TellsDay g.S.Store gives c.args.is_strict all (opened_of all) c.tell_rows.result.archive a) c.as_slice.ensures.value t),
+          t,
     ))
     c.tell_rows.ensures
 

@@ -16,4 +16,4 @@ returns g c =
     let asked = rw c.as_slice-2.ensures.value at c.in_ok-phases.ensures in
     let many : vec_len c.in_ok-books.books ≡ length c.args.days.items = let b = c.in_ok-books.ensures.len in search rules in
     tells_days c.args.is_strict c.tell_books.result days (map (λ b. b.day) c.in_ok-books.books.items) (vec_len c.in_ok-books.books) (phases_of rows) c.in_ok-phases.phases.items rows
-    c.in_ok-books.ensures.each refl asked many (rw c.as_slice-3.ensures.value at c.tell_books.ensures)
+    c.in_ok-books.ensures.each refl asked many c.tell_books.ensures

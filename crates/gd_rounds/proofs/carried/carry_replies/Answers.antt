@@ -7,7 +7,7 @@ lines-preserved c =
     let now = c.lines in
     let keys = c.deref-key-items.result.now in
     let low : now.line < length keys = search rules in
-    row_more keys c.last_published-quantities.result.now now.line c.key-item.result c.quantity_of.result now.rows.items c.push.new.self.items c.carry_row.result low c.key-item.is c.quantity_of.ensures c.carry_row.ensures now.invariant c.in_ok-push.ensures.items
+    row_more keys c.last_published-quantities.result.now now.line c.key-item.result c.quantity_of.result now.rows.items c.push.new.self.items c.in_ok-row.row low c.key-item.is c.quantity_of.ensures c.in_ok-row.ensures now.invariant c.in_ok-push.ensures.items
 
 pub returns : goal.returns
 returns c day legal =
