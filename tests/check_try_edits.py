@@ -1,9 +1,9 @@
 #!/usr/bin/env python3
 """check_try_edits.py
 
-Tries `tests/try_edits.py` on a crate that is made here: an edit that turns nothing, the same hidden behind another, one that is hidden, one that
-doesn't compile, one that can't be applied, two in one function, and two of definitions; and looks at what it makes of lines
-that a check may say. The last line is 'N passed, M failed', and the exit status is 0 only where none failed.
+Tries `tests/try_edits.py` on crates that are made here: an edit that turns nothing, the same hidden behind another, one that is hidden, one that
+doesn't compile, one that can't be applied, two of definitions; several in one function, of which one turns nothing, where that can be copied and
+where it can't; and looks at what it makes of lines that a check may say. The last line is 'N passed, M failed', and the exit status is 0 only where none failed.
 """
 
 import subprocess
@@ -63,24 +63,90 @@ use Rattle.std.specs.Prelude.{ℕ, ◌+◌}
 abbrev pub two_more : ℕ → ℕ
 two_more n = n + 2
 """
+COUNTING = """\
+//! A loop and methods, each of which several edits turn.
+
+ghost use Rattle.std.specs.Prelude.{◌≡◌, ◌+◌, ◌≤◌, length};
+
+/// How many of the bytes are 0: at most all.
+pub fn zeros(bytes: &[u8]) -> usize
+    ensures { result ≤ length bytes.now }
+{
+    let mut count = 0;
+    for at in 0..bytes.len() {
+        if bytes[at] == 0 {
+            count += 1;
+        }
+    }
+    count
+}
+
+/// A number.
+#[derive(Drop)]
+pub struct Low {
+    pub number: u8,
+}
+
+impl Low {
+    /// The number behind it.
+    pub fn next(&self) -> u16
+        ensures { result ≡ self.now.number + 1 }
+    {
+        u16::from(self.number) + 1
+    }
+}
+
+/// The same number.
+pub struct High {
+    pub number: u8,
+}
+
+impl From<Low> for High {
+    ghost use Rattle.std.specs.Prelude.{◌≡◌};
+
+    ghost from_gives = { λ low high. high.number ≡ low.number };
+
+    fn from(low: Low) -> High {
+        High { number: low.number }
+    }
+}
+"""
+INVARIANT = """\
+use Rattle.std.proofs.Common.{◌≤◌}
+use Rattle.twice.proofs.counting.zeros.Given as goal
+
+abbrev pub invariant-loop-at : goal.invariant-loop-at
+invariant-loop-at l = l.count ≤ l.at
+"""
 FILES = {
-    "crates.txt": "tried:\n",
+    "crates.txt": "tried:\ntwice:\n",
+    "crates/twice/src/lib.rt": "//! For a trial of must-fail edits.\n#![tactic(auto)]\n\nmod counting;\n\npub use counting::{High, Low, zeros};\n",
+    "crates/twice/src/counting.rt": COUNTING,
+    "crates/twice/proofs/counting/zeros/Invariants.antt": INVARIANT,
     "crates/tried/src/lib.rt": LIBRARY,
     "crates/tried/specs/Lib.antt": "pub mod Sums\n",
     "crates/tried/specs/Sums.antt": SUMS,
 }
 
-# Each edit: the file, what it changes, and what is to be told of it.
+# Each edit of a crate: the file, what it changes, and what is to be told of it.
 EDITS = {
-    "turns_nothing": ("src/lib.rt", "    if a < b { b } else { a }", "    if a <= b { b } else { a }", "FAILED in round 2: the crate is still proved"),
-    "larger_is_the_first": ("src/lib.rt", "    if a < b { b } else { a }", "    if a < b { a } else { a }", "refused"),
-    "next_is_the_one_after": ("src/lib.rt", "    n + 1", "    n + 2", "refused: "),
-    "hidden_behind_the_next": ("src/lib.rt", "    next(one)", "    one", "refused in round 2: "),
-    "nothing_behind_the_next": ("src/lib.rt", "    next(two)", "    next(two + 0)", "FAILED in round 3: the crate is still proved"),
-    "does_not_compile": ("src/lib.rt", "    let one = next(n);", "    let one = nowhere(n);", "FAILED: it doesn't compile"),
-    "stands_nowhere": ("src/lib.rt", "    n + 3", "    n + 4", "FAILED: it can't be applied"),
-    "three_more": ("specs/Sums.antt", "two_more n = n + 2", "two_more n = n + 3", "refused: "),
-    "four_more": ("specs/Sums.antt", "two_more n = n + 2", "two_more n = n + 4", "refused: second_next: "),
+    "tried/turns_nothing": ("src/lib.rt", "    if a < b { b } else { a }", "    if a <= b { b } else { a }", "FAILED in round 2: the crate is still proved"),
+    "tried/larger_is_the_first": ("src/lib.rt", "    if a < b { b } else { a }", "    if a < b { a } else { a }", "refused"),
+    "tried/next_is_the_one_after": ("src/lib.rt", "    n + 1", "    n + 2", "refused: "),
+    "tried/hidden_behind_the_next": ("src/lib.rt", "    next(one)", "    one", "refused in round 2: "),
+    "tried/nothing_behind_the_next": ("src/lib.rt", "    next(two)", "    next(two + 0)", "FAILED in round 3: the crate is still proved"),
+    "tried/does_not_compile": ("src/lib.rt", "    let one = next(n);", "    let one = nowhere(n);", "FAILED: it doesn't compile"),
+    "tried/stands_nowhere": ("src/lib.rt", "    n + 3", "    n + 4", "FAILED: it can't be applied"),
+    "tried/three_more": ("specs/Sums.antt", "two_more n = n + 2", "two_more n = n + 3", "refused: "),
+    "tried/four_more": ("specs/Sums.antt", "two_more n = n + 2", "two_more n = n + 4", "refused: second_next: "),
+    "twice/begins_with_one": ("src/counting.rt", "    let mut count = 0;", "    let mut count = 1;", "refused: "),
+    "twice/counts_twice": ("src/counting.rt", "            count += 1;", "            count += 2;", "refused: "),
+    "twice/looks_at_the_next": ("src/counting.rt", "bytes[at] == 0", "bytes[at + 1] == 0", "refused: "),
+    "twice/ones_in_place_of_zeros": ("src/counting.rt", "bytes[at] == 0", "bytes[at] == 1", "FAILED in round 2: the crate is still proved"),
+    "twice/next_but_one": ("src/counting.rt", "u16::from(self.number) + 1", "u16::from(self.number) + 2", "refused: "),
+    "twice/no_next": ("src/counting.rt", "u16::from(self.number) + 1", "u16::from(self.number)", "refused: "),
+    "twice/half": ("src/counting.rt", "High { number: low.number }", "High { number: low.number / 2 }", "refused: "),
+    "twice/none": ("src/counting.rt", "High { number: low.number }", "High { number: low.number / 3 }", "refused in round 2: "),
 }
 # The functions that edits of definitions name.
 NAMED = {"four_more": "second_next"}
@@ -104,9 +170,10 @@ def lay(folder):
     for name, text in FILES.items():
         (folder / name).parent.mkdir(parents=True, exist_ok=True)
         (folder / name).write_text(text)
-    (folder / "crates/tried/must-fail").mkdir()
     for name, (file, old, new, _) in EDITS.items():
-        (folder / f"crates/tried/must-fail/{name}.edit").write_text(f"file: {file}\nold: {old}\nnew: {new}\n")
+        crate, edit = name.split("/")
+        (folder / f"crates/{crate}/must-fail").mkdir(exist_ok=True)
+        (folder / f"crates/{crate}/must-fail/{edit}.edit").write_text(f"file: {file}\nold: {old}\nnew: {new}\n")
     (folder / "crates/tried/must-fail/refused-by.md").write_text("".join(f"- {edit}: {function}\n" for edit, function in NAMED.items()))
 
 
@@ -114,9 +181,9 @@ def of_edits(folder):
     """What is wrong with what is told of the edits."""
     lay(folder)
     ran = subprocess.run([TOP / "tests/try_edits.py", "--root", folder], stdin=subprocess.DEVNULL, stdout=subprocess.PIPE, text=True)
-    told = dict(line.split(": ", 1) for line in ran.stdout.splitlines() if line.startswith("tried/"))
-    faults = [f"{name}: {told.get(f'tried/{name}.edit', 'nothing is told')}, and not {wanted}"
-              for name, (*_, wanted) in EDITS.items() if not told.get(f"tried/{name}.edit", "").startswith(wanted)]
+    told = dict(line.split(": ", 1) for line in ran.stdout.splitlines() if line.startswith(("tried/", "twice/")))
+    faults = [f"{name}: {told.get(f'{name}.edit', 'nothing is told')}, and not {wanted}"
+              for name, (*_, wanted) in EDITS.items() if not told.get(f"{name}.edit", "").startswith(wanted)]
     failing = sum(wanted.startswith("FAILED") for *_, wanted in EDITS.values())
     last = f"{len(EDITS) - failing} passed, {failing} failed"
     if ran.returncode != 1 or not ran.stdout.endswith(last + "\n"):

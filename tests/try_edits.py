@@ -2,12 +2,15 @@
 """try_edits.py [--libraries FOLDER [--beside LOG]] [--root FOLDER] [CRATE ..]
 
 Tries the must-fail edits of the crates that are named, or of all: each must be refused by a goal or an answer of a function
-that it turns. Those of a crate that stand in bodies of different functions are tried together, in one check of a copy of the
-crate that has them all, since what is owed of a function rests on its own body and on the contracts of the others alone. An
-edit that is told only to call a function that isn't proved goes to the next round; what isn't clearly refused there is tried
-alone and from nothing, as `rt must-fail` does, and so is an edit that turns more than bodies. What an edit of a definition
-turns is read anew over what a check of the crate as it stands has proved; where must-fail/refused-by.md has a line `- EDIT:
-FUNCTION` with a function that must be refused for it, that one is checked first.
+that it turns. Those of a crate that stand in bodies are tried together, in one check of a copy of the crate that has them all,
+since what is owed of a function rests on its own body and on the contracts of the others alone. Where several turn one
+function, the first turns that, and each further one a copy of it under another name, with copies of its proof's files. Where
+it has such files, a copy without any edit stands beside these, and only where no goal of that is refused what is told of the
+others counts. An edit that is told only to call a function that isn't proved, or whose function can't be copied, goes to the
+next round; what isn't clearly refused there is tried alone and from nothing, as `rt must-fail` does, and so is an edit that
+turns more than bodies. What an edit of a definition turns is read anew over what a check of the crate as it stands has proved;
+where must-fail/refused-by.md has a line `- EDIT: FUNCTION` with a function that must be refused for it, that one is checked
+first.
 
 --libraries names a copy of the repository in whose crates/*/out the libraries stand that `rt ci` has just built of the same
 files; without it they are built as `rt must-fail` builds them. With --beside that `rt ci` is still at work: LOG is what it has
@@ -55,6 +58,8 @@ REJECTED = re.compile(r"\berror\[[\w-]+\]")
 # What the log of a gate says of a crate whose library stands, and its last line.
 STANDING = re.compile(r"^rt: (\w+) (?:proved|is kept)\b", re.M)
 GATE_ENDED = re.compile(r"^GATE ENDED$", re.M)
+# What stands between a function's name and a number in that of a copy of it.
+AGAIN = "_again_"
 # How long to wait between two looks at that log, and so between the starts of two checks beside the gate.
 SECONDS = 10
 
@@ -140,15 +145,23 @@ def owner(lines, head):
     return ""
 
 
-def function_at(crate, path, lines, at):
-    """The function in whose body the line stands, or None."""
+def place_at(lines, at):
+    """The lines at which the function begins and ends in whose body the line stands, or None."""
     head = next((it for it in range(at, -1, -1) if FUNCTION.match(lines[it])), None)
     if head is None or body_from(lines, head) >= at:
         return None
-    indent, name = FUNCTION.match(lines[head]).groups()
+    indent = FUNCTION.match(lines[head])[1]
     end = next((it for it in range(body_from(lines, head), len(lines)) if lines[it] == indent + "}"), len(lines))
-    if at > end:
+    return (head, end) if at <= end else None
+
+
+def function_at(crate, path, lines, at):
+    """The function in whose body the line stands, or None."""
+    place = place_at(lines, at)
+    if not place:
         return None
+    head, _ = place
+    indent, name = FUNCTION.match(lines[head]).groups()
     if indent:
         return Function("", owner(lines, head) + name)
     inside = [it for it in path.removeprefix("src/").removesuffix(".rt").split("/") if it not in ("lib", "main", "mod")]
@@ -167,6 +180,83 @@ def read_edit(crate, folder, path):
         functions += [function_at(crate, file, was, at) if file.startswith("src/") else None for at in lines[file]]
     is_inside = all(functions)
     return Edit(crate, path, texts, lines, [*dict.fromkeys(functions)] if is_inside else []), None
+
+
+@dataclasses.dataclass
+class Twin:
+    """A copy of a function under another name right behind it, which an edit turns, or none does."""
+
+    original: Function
+    file: str
+    place: tuple
+    number: int
+    edit: Edit | None
+
+    def named(self, name):
+        """The name of the copy of what has this name."""
+        return f"{name}{AGAIN}{self.number}"
+
+    @property
+    def function(self):
+        return Function(self.original.module, self.named(self.original.own))
+
+    def text(self, lines):
+        """The lines of the copy, of those of the file as it stands."""
+        head, end = self.place
+        own = {**dict(enumerate(lines)), **(self.edit.lines[self.file] if self.edit else {})}
+        name = FUNCTION.match(lines[head])
+        first = lines[head][: name.start(2)] + self.named(name[2]) + lines[head][name.end(2) :]
+        return ["", first, *(own[at] for at in range(head + 1, end + 1))]
+
+    def proofs(self, folder):
+        """The folders of the function's own proof, and of its closures', below a crate's."""
+        *before, name = self.original.own.split("::")
+        if before:
+            return [*Path(folder, "proofs").rglob("/".join([*before, name]))]
+        inside = Path(folder, "proofs", *self.original.module.split("::")[1:])
+        return [it for it in (inside / name, inside / "fn" / name) if it.is_dir()]
+
+    def lay(self, folder):
+        """Lays the copy's proof beside the function's."""
+        for proof in self.proofs(folder):
+            path = ".".join(proof.relative_to(folder).parts)
+            for file in proof.rglob("*.antt"):
+                to = proof.with_name(self.named(proof.name)) / file.relative_to(proof)
+                to.parent.mkdir(parents=True, exist_ok=True)
+                to.write_text(file.read_text(encoding="utf-8").replace(f"{path}.", f"{self.named(path)}."), encoding="utf-8")
+
+
+def twin_of(folder, edit, number):
+    """The copy of the function that the edit turns, or None where it turns several, or one that can't be copied: a trait's method, one
+    that calls itself, or one with attributes."""
+    (file, changed), *more = edit.lines.items()
+    lines = Path(folder, file).read_text(encoding="utf-8").split("\n")
+    place = place_at(lines, min(changed))
+    if more or len(edit.functions) > 1 or not place:
+        return None
+    head, end = place
+    indent, name = FUNCTION.match(lines[head]).groups()
+    is_method = indent and next((it[2] for it in map(IMPL.match, reversed(lines[:head])) if it), "none")
+    calls_itself = any(re.search(rf"\b{name}\(", it) for it in lines[head + 1 : end + 1])
+    if is_method or calls_itself or name == "main" or lines[head - 1].lstrip().startswith("#"):
+        return None
+    return Twin(edit.functions[0], file, place, number, edit)
+
+
+def with_twins(folder, edits):
+    """Those of the edits that copies of their functions can have, each with such a copy, a copy without any edit of each of these
+    functions whose proof has files, and the edits that are left."""
+    twins, left, numbers = [], [], {}
+    for edit in edits:
+        twin = twin_of(folder, edit, 1 + numbers.get(edit.functions[0], 1))
+        if not twin:
+            left.append(edit)
+            continue
+        if twin.number == 2 and twin.proofs(folder):
+            twins.append(dataclasses.replace(twin, number=1, edit=None))
+        numbers[twin.original] = twin.number
+        twins.append(twin)
+    return twins, left
 
 
 def of_one_round(edits):
@@ -212,6 +302,11 @@ class Said:
         """Whether all that was said is that it, or a closure of it, calls what isn't proved."""
         return any(CALLS.search(self.lines[it]) for it in self.of(function))
 
+    def stands(self, function):
+        """Whether the function is proved, or would be if what it calls were."""
+        return self.is_read(function) and not self.refusal(function) and all(
+            self.lines[it].startswith(PROVED) or CALLS.search(self.lines[it]) for it in self.of(function))
+
     def is_read(self, function):
         """Whether what was said of the function is something that this script knows."""
         lines = [self.lines[it] for it in self.of(function)]
@@ -233,8 +328,8 @@ class Room:
     def __exit__(self, *_):
         shutil.rmtree(self.folder, ignore_errors=True)
 
-    def lay(self, edits):
-        """Lays the crate's files anew, with these edits in them."""
+    def lay(self, edits, twins):
+        """Lays the crate's files anew, with these edits and copies of functions in them."""
         shutil.rmtree(self.copy, ignore_errors=True)
         for part in RT.rtlib.PARTS:
             if os.path.isdir(f"{self.crate.folder}/{part}"):
@@ -247,10 +342,15 @@ class Room:
             place = Path(self.copy, file)
             text = place.read_text(encoding="utf-8").split("\n")
             place.write_text("\n".join(lines.get(at, line) for at, line in enumerate(text)), encoding="utf-8")
+        for twin in sorted(twins, key=lambda it: (it.file, it.place), reverse=True):
+            place, whole = Path(self.copy, twin.file), Path(self.crate.folder, twin.file).read_text(encoding="utf-8").split("\n")
+            text, behind = place.read_text(encoding="utf-8").split("\n"), twin.place[1] + 1
+            place.write_text("\n".join([*text[:behind], *twin.text(whole), *text[behind:]]), encoding="utf-8")
+            twin.lay(self.copy)
 
-    def check(self, edits, paths, keeps):
-        """What a check of these functions, with these edits, says."""
-        self.lay(edits)
+    def check(self, edits, paths, keeps, twins=()):
+        """What a check of these functions, with these edits and copies of functions, says."""
+        self.lay(edits, twins)
         flags = [*ONE_JOB, "--allow-holes"] if paths else ONE_JOB
         words = [RT.rtlib.RATTLE, "check", *self.crate.words(flags, keeps=False)]
         for path in paths or [""]:
@@ -310,13 +410,27 @@ def verdict_of(room, edit, said, is_one):
     return alone(room.crate, edit)
 
 
-def in_round(room, edits, is_last):
-    """Tries edits of different functions together. Gives verdicts, and the edits that are hidden behind others."""
-    output = room.check(edits, [it.path for edit in edits for it in edit.functions], keeps=not is_last)
-    said = Said(output)
+def verdict_of_twin(twin, unedited, said):
+    """What was said of a copy of a function that an edit turns, or None where nothing is shown by it: where it isn't refused by a
+    goal of its own, or one of the copy without an edit is refused too."""
+    stands = all(said.stands(it.function) for it in unedited if it.original == twin.original)
+    refusal = said.refusal(twin.function) if stands else None
+    return Verdict(twin.edit.name, True, refusal) if refusal else None
+
+
+def in_round(room, edits, is_last, twins=()):
+    """Tries edits of different functions together, and further ones of these functions in copies of them. Gives verdicts, and the
+    edits that are hidden behind others."""
+    functions = [it for edit in edits for it in edit.functions] + [it.function for it in twins]
+    output = room.check(edits, [it.path for it in functions], not is_last, twins)
+    said, copied, unedited = Said(output), [it for it in twins if it.edit], [it for it in twins if not it.edit]
+    if not said.ended and twins:
+        verdicts, hidden = in_round(room, edits, False)
+        return verdicts, hidden + [it.edit for it in copied]
     if not said.ended:
         return unended(room, edits, output, is_last)
     found = [(it, verdict_of(room, it, said, len(edits) == 1)) for it in edits]
+    found += [(it.edit, verdict_of_twin(it, unedited, said)) for it in copied]
     return [verdict for _, verdict in found if verdict], [edit for edit, verdict in found if not verdict]
 
 
@@ -365,7 +479,8 @@ def in_rounds(crate, edits):
         while edits:
             number += 1
             chosen, left = of_one_round(edits)
-            found, hidden = in_round(room, chosen, not left)
+            twins, left = with_twins(crate.folder, left)
+            found, hidden = in_round(room, chosen, not left, twins)
             # (what is hidden with nothing decided beside it would be so again)
             found += [alone(crate, it) for it in hidden] if not found else []
             verdicts += [dataclasses.replace(it, number=number) for it in found]
