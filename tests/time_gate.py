@@ -26,8 +26,8 @@ SECONDS = 2
 # How long to wait between two looks at how slow the machine is.
 BETWEEN = 300
 # Processor minutes for all proofs, tests and edits, and how much more fails the report.
-# (230 for all before the live book, and 25 for that: gd_opening, gd_serving, gd_live, gd_live_text, gd_rounds, gasday_live and
-# gasday_live_tests)
+# (230 for all before the live book, and 25 for that: gd_opening, gd_serving, gd_live, gd_live_text, gd_rounds, gasday_live and its
+# tests in gasday_tests)
 BUDGET, MORE = 255, 1.2
 TICK = os.sysconf("SC_CLK_TCK")
 EDIT = re.compile(r"/(?:rt-edit|gasday-edits)[\w-]*")

@@ -1,3 +1,1 @@
-mod Auditing
-mod Files
 pub mod Writing

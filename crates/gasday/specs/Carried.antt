@@ -1,15 +1,14 @@
 -- What an order is answered, the office among them, and what is written of it.
-use Rattle.std.specs.Prelude.{◌≡◌, ◌⊎◌, ⊤, ℕ, Bool, true, false, List, Option, None, Result, Err}
+use Rattle.std.specs.Prelude.{◌≡◌, ⊤, ℕ, Bool, true, false, List, Option, None, Result}
 use Rattle.sqlite_trees.specs.declared.store.Store.{Ghosts}
 use Rattle.sqlite.specs.Held.{Held}
 use Rattle.sqlite.specs.declared.error.Error.{Error}
-use Rattle.gasday_words.specs.Ordered.{Ordered, ArchivedDay, Audit, AuditEach, LiveDay, Migrate, Office}
-use Rattle.gasday_part.specs.Answers.{Told, no_memory, one}
+use Rattle.gasday_words.specs.Ordered.{Ordered, Audit, AuditEach, Office}
+use Rattle.gasday_part.specs.Answers.{Told}
 use Rattle.gasday_part.specs.Output.{WritesTold}
-use Rattle.gasday_part.specs.Solutions.{ChecksAnswer}
 use Rattle.gasday_archive.specs.Orders.{Answers, IsAnswered}
 use Rattle.gasday_archive.specs.Runs.{OrNoMemory, TellsOpened}
-use Rattle.gasday.specs.Audited.{TellsAudit}
+use Rattle.gasday_orders.specs.Audited.{TellsAudit}
 use Rattle.gasday_office.specs.Offices.{AnswersOfficeBytes}
 
 -- an office's answer to the bytes of a text, a strict one's or any; no archive comes back
@@ -34,14 +33,3 @@ AnswersOrder g gives order text left a = Answers g gives order text left a
 -- What is written of an order over these bytes, and the exit status: what it is answered, and nothing else.
 abbrev pub CarriesOut : {S : Type 0} → Ghosts S → (Result (Held S) Error → Type 0) → Ordered → List ℕ → Option (Held S) → Option (List ℕ) → Option (List ℕ) → ℕ → Type 0
 CarriesOut g gives order text left old new status = WritesTold (AnswersOrder g gives order text left) old new status
-
--- what is told of an answer to a question, or that memory ran out
-abbrev pub TellsAnswer : List ℕ → List ℕ → Told → Type 0
-TellsAnswer question answer a = ChecksAnswer question answer a ⊎ (a ≡ one no_memory 2)
-
--- The exit status of an order whose file is closed so: 2 where what it kept or migrated isn't copied from the log into the file.
-abbrev pub status_closed : Ordered → Result ⊤ Error → ℕ → ℕ
-status_closed (ArchivedDay file strict) (Err error) status = 2
-status_closed (LiveDay file) (Err error) status = 2
-status_closed (Migrate file) (Err error) status = 2
-status_closed order closed status = status

@@ -1,0 +1,3 @@
+mod Auditing
+mod Files
+mod Writing

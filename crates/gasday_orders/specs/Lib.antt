@@ -1,0 +1,4 @@
+pub mod Audited
+pub mod Checked
+pub mod Closing
+pub mod Files

@@ -1,0 +1,133 @@
+//! The file that an order names: an archive's, or a book's.
+
+use crate::told::{tell_cause, tell_unopened};
+use gasday_archive::Opener;
+use gasday_words::Order;
+use sqlite::{Connection, Error, ErrorCode, File as StoreFile, FileStore, Unknown};
+use sqlite_disk::Disk;
+use std::alloc::AllocError;
+use std::fs::{File, metadata};
+use std::io;
+use std::io::{ErrorKind, Read};
+use std::thread::sleep;
+use std::time::Duration;
+
+/// The file that an order names.
+#[derive(Drop)]
+pub struct NamedFile<'a> {
+    pub rt: &'a HostRuntime,
+    pub order: Order<'a>,
+    /// For how many seconds it is tried again where another process has it.
+    pub wait: u32,
+}
+
+/// How often a second a file is tried that another process has, and the milliseconds from one try to the next.
+const TRIES: u64 = 10;
+
+const PAUSE: u64 = 100;
+
+impl<'a> NamedFile<'a> {
+    /// The name of a file that is there and has something, or people are told what is wrong with it.
+    fn present(&self, file: &'a str) -> Option<&'a str> {
+        match metadata(self.rt, file) {
+            Ok(found) if found.is_dir() => tell_unopened(self.rt, file, "it is a folder"),
+            Ok(found) if found.len() == 0 => tell_unopened(self.rt, file, "it is empty"),
+            Ok(_) => return Some(file),
+            Err(error) => tell_cause(self.rt, file, error.to_string(self.rt.alloc())),
+        }
+        None
+    }
+
+    /// The name of the file. A gas day makes it where there is none; who audits, migrates, prints or asks one names one that is there.
+    fn name(&self) -> Option<&'a str> {
+        match self.order {
+            Order::Text(_)
+            | Order::CheckAnswer
+            | Order::Office { .. }
+            | Order::ArchivedDay { file: "", .. }
+            | Order::LiveDay("") => None,
+            Order::ArchivedDay { file, .. } | Order::LiveDay(file) => Some(file),
+            Order::Audit(file)
+            | Order::AuditEach(file)
+            | Order::Migrate(file)
+            | Order::BookText(file)
+            | Order::Question { file, .. }
+            | Order::Carry(file) => self.present(file),
+        }
+    }
+
+    /// Opens the file, as soon as no other process has it, if it waits so long.
+    fn opened(&self, name: &str) -> Result<Connection<FileStore<StoreFile>>, Error> {
+        'tries: for _ in 0..u64::from(self.wait) * TRIES {
+            match Connection::open(self.rt, name) {
+                Err(Error::SqliteFailure(ErrorCode::DatabaseBusy)) => {
+                    sleep(self.rt, Duration::from_millis(PAUSE));
+                }
+                opened => return opened,
+            }
+        }
+        Connection::open(self.rt, name)
+    }
+
+    /// Tells people why the file can't be opened.
+    fn tell_why(&self, name: &str, error: &Error) {
+        match (metadata(self.rt, name), error) {
+            (_, Error::SqliteFailure(ErrorCode::DatabaseBusy)) => tell_unopened(
+                self.rt,
+                name,
+                "another process has it; it is free again once that has ended",
+            ),
+            (Ok(found), _) if found.is_dir() => tell_unopened(self.rt, name, "it is a folder"),
+            _ => tell_cause(self.rt, name, cause(self.rt, name, error)),
+        }
+    }
+}
+
+/// Why a file can't be opened as a database, which sqlite refused with this error: what the system says of it, if that refuses it.
+fn cause(rt: &HostRuntime, name: &str, error: &Error) -> Result<String, AllocError> {
+    match sqlite_std_file::open(rt, name, Unknown) {
+        Err(refused) => refused.to_string(rt.alloc()),
+        Ok(_) => error.to_string(rt.alloc()),
+    }
+}
+
+impl<'a> Opener<FileStore<StoreFile>> for NamedFile<'a> {
+    ghost use Rattle.std.specs.Prelude.{⊤};
+
+    // Whatever the file is, or why it can't be opened.
+    ghost opens = { λ file opened. ⊤ };
+
+    fn open(self) -> Result<Connection<FileStore<StoreFile>>, Error> {
+        let Some(name) = self.name() else {
+            return Err(Error::SqliteFailure(ErrorCode::CannotOpen));
+        };
+        match self.opened(name) {
+            Ok(conn) => Ok(conn),
+            Err(error) => {
+                self.tell_why(name, &error);
+                Err(error)
+            }
+        }
+    }
+}
+
+/// The bytes with which each database of SQLite begins.
+const MAGIC: [u8; 16] = *b"SQLite format 3\0";
+
+/// Whether a file is a database of SQLite, or why it can't be read.
+pub(crate) fn is_database(rt: &HostRuntime, name: &str) -> io::Result<bool> {
+    let mut head = [0; 16];
+    match File::open(rt, name)?.read_exact(&mut head) {
+        Ok(()) => Ok(head == MAGIC),
+        Err(error) if error.kind() == ErrorKind::UnexpectedEof => Ok(false),
+        Err(error) => Err(error),
+    }
+}
+
+/// Closes a file that was opened, and copies its log into it. Where that fails both stay, and what was kept stands in the log.
+pub(crate) fn close<D: Disk + Drop>(file: Option<Connection<FileStore<D>>>) -> Result<(), Error> {
+    match file {
+        Some(file) => file.close(),
+        None => Ok(()),
+    }
+}

@@ -1,0 +1,137 @@
+//! Where a text comes from: standard input, or files that were named.
+
+use crate::file::is_database;
+use crate::noted::Noted;
+use crate::told::tell_waiting;
+use gasday_words::{Order, Request};
+use gd_messages::Part;
+use gd_text_part::{MAX_BYTES, TextFault, read_bytes};
+use std::fs::File;
+use std::io;
+use std::io::Read;
+
+/// What a command reads: the bytes of standard input, or those of files, one behind the other, each without a byte order mark and
+/// ended by a line break.
+#[derive(Drop)]
+pub struct Text<'a> {
+    pub bytes: Vec<u8>,
+    /// The files, none of standard input.
+    pub parts: Vec<Part<'a>>,
+}
+
+/// Why a text was not read.
+#[derive(Drop)]
+pub enum Unread<'a> {
+    /// A file can't be read.
+    File(&'a str, io::Error),
+    /// What standard input has is no text, or a read failed with an error.
+    Standard(TextFault, Option<io::Error>),
+}
+
+const BYTE_ORDER_MARK: &[u8] = b"\xef\xbb\xbf";
+
+/// How many bytes are read more at the most: of one more than a text may have it is told that it is too long.
+fn left(bytes: &[u8]) -> u64 {
+    (MAX_BYTES as u64)
+        .saturating_add(1)
+        .saturating_sub(bytes.len() as u64)
+}
+
+/// The name by which standard input is one of the files.
+const STANDARD_INPUT: &str = "-";
+
+/// Reads what a file has, or standard input, and no more than a text may have behind so many bytes.
+fn read_named(rt: &HostRuntime, name: &str, bytes: &[u8]) -> io::Result<Vec<u8>> {
+    let mut file = Vec::new(rt.alloc());
+    if name == STANDARD_INPUT {
+        rt.reader().take(left(bytes)).read_to_end(&mut file)?;
+    } else {
+        File::open(rt, name)?
+            .take(left(bytes))
+            .read_to_end(&mut file)?;
+    }
+    Ok(file)
+}
+
+/// Puts what a file has behind the bytes, and a line break behind that if it has none.
+fn append(rt: &HostRuntime, name: &str, bytes: &mut Vec<u8>) -> io::Result<()> {
+    let file = read_named(rt, name, bytes.as_slice())?;
+    let text = file.as_slice();
+    bytes.extend_from_slice(text.strip_prefix(BYTE_ORDER_MARK).unwrap_or(text))?;
+    if !bytes.as_slice().ends_with(b"\n") {
+        bytes.push(b'\n')?;
+    }
+    Ok(())
+}
+
+impl<'a> Text<'a> {
+    /// A text of nothing.
+    pub(crate) fn empty(rt: &HostRuntime) -> Text<'a> {
+        Text {
+            bytes: Vec::new(rt.alloc()),
+            parts: Vec::new(rt.alloc()),
+        }
+    }
+
+    /// Puts a file behind the others.
+    fn add(&mut self, rt: &HostRuntime, name: &'a str) -> io::Result<()> {
+        let begin = self.bytes.len();
+        self.parts.push(Part { name, begin })?;
+        append(rt, name, &mut self.bytes)
+    }
+
+    /// What these files have, in order.
+    pub(crate) fn of_files(rt: &HostRuntime, names: &[&'a str]) -> Result<Text<'a>, Unread<'a>> {
+        let mut text = Text::empty(rt);
+        for name in names {
+            if let Err(error) = text.add(rt, *name) {
+                return Err(Unread::File(*name, error));
+            }
+        }
+        Ok(text)
+    }
+
+    /// All that standard input has.
+    pub(crate) fn of_input(rt: &HostRuntime) -> Result<Text<'a>, Unread<'a>> {
+        let mut reader = Noted::new(rt.reader());
+        match read_bytes(rt.alloc(), &mut reader) {
+            Ok(bytes) => Ok(Text {
+                bytes,
+                parts: Vec::new(rt.alloc()),
+            }),
+            Err(fault) => Err(Unread::Standard(fault, reader.take_error())),
+        }
+    }
+}
+
+/// The text of a file, or of standard input; `None` of a database.
+pub(crate) fn named_by<'a>(
+    rt: &HostRuntime,
+    file: &'a str,
+) -> Result<Option<Text<'a>>, Unread<'a>> {
+    if file != STANDARD_INPUT {
+        match is_database(rt, file) {
+            Ok(true) => return Ok(None),
+            Ok(false) => {}
+            Err(error) => return Err(Unread::File(file, error)),
+        }
+    }
+    Ok(Some(Text::of_files(rt, &[file])?))
+}
+
+/// The text of a request. Who audits or migrates an archive reads none.
+///
+/// # Errors
+///
+/// `File` with the first file that can't be read; `Standard` where standard input gives no text: it is too long, memory ended, or a
+/// read failed.
+pub fn text_of<'a>(rt: &HostRuntime, request: &Request<'a>) -> Result<Text<'a>, Unread<'a>> {
+    match request.order {
+        Order::Audit(_) | Order::AuditEach(_) | Order::Migrate(_) => Ok(Text::empty(rt)),
+        _ if request.texts.is_empty() => {
+            tell_waiting(rt);
+            Text::of_input(rt)
+        }
+        _ => Text::of_files(rt, request.texts.as_slice()),
+    }
+}
