@@ -1,9 +1,10 @@
 #!/usr/bin/env python3
 """check_try_edits.py
 
-Tries `tests/try_edits.py` on crates that are made here: an edit that turns nothing, the same hidden behind another, one that is hidden, one that
-doesn't compile, one that can't be applied, two of definitions; several in one function, of which one turns nothing, where that can be copied and
-where it can't; and looks at what it makes of lines that a check may say. The last line is 'N passed, M failed', and the exit status is 0 only where none failed.
+Tries `tests/try_edits.py` on crates that are made here: an edit that turns nothing, the same hidden behind another, one that is
+hidden, one that doesn't compile, one that can't be applied, two of definitions; several in one function, of which one turns
+nothing, where that is copied and where it isn't; and looks at what it makes of lines that a check may say. The last line is
+'N passed, M failed', and the exit status is 0 only where none failed.
 """
 
 import subprocess

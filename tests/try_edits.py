@@ -6,7 +6,7 @@ that it turns. Those of a crate that stand in bodies are tried together, in one 
 since what is owed of a function rests on its own body and on the contracts of the others alone. Where several turn one
 function, the first turns that, and each further one a copy of it under another name, with copies of its proof's files. Where
 it has such files, a copy without any edit stands beside these, and only where no goal of that is refused what is told of the
-others counts. An edit that is told only to call a function that isn't proved, or whose function can't be copied, goes to the
+others counts. An edit that is told only to call a function that isn't proved, or whose function isn't copied, goes to the
 next round; what isn't clearly refused there is tried alone and from nothing, as `rt must-fail` does, and so is an edit that
 turns more than bodies. What an edit of a definition turns is read anew over what a check of the crate as it stands has proved;
 where must-fail/refused-by.md has a line `- EDIT: FUNCTION` with a function that must be refused for it, that one is checked
@@ -227,8 +227,8 @@ class Twin:
 
 
 def twin_of(folder, edit, number):
-    """The copy of the function that the edit turns, or None where it turns several, or one that can't be copied: a trait's method, one
-    that calls itself, or one with attributes."""
+    """The copy of the function that the edit turns, or None where it turns several, or one that isn't copied: a trait's method, one
+    whose body calls something of its own name, which may be itself, or one with attributes."""
     (file, changed), *more = edit.lines.items()
     lines = Path(folder, file).read_text(encoding="utf-8").split("\n")
     place = place_at(lines, min(changed))
