@@ -1,5 +1,5 @@
 -- What an order's exit status is once its file is closed.
-use Rattle.std.specs.Prelude.{⊤, ℕ, Result, Err}
+use Rattle.std.specs.Prelude.{◌≡◌, ⊤, ℕ, Result, Err}
 use Rattle.sqlite.specs.declared.error.Error.{Error}
 use Rattle.gasday_words.specs.Ordered.{Ordered, ArchivedDay, LiveDay, Migrate}
 
@@ -9,3 +9,7 @@ status_closed (ArchivedDay file strict) (Err error) status = 2
 status_closed (LiveDay file) (Err error) status = 2
 status_closed (Migrate file) (Err error) status = 2
 status_closed order closed status = status
+
+-- An order that came out with this status exits so, by how the close of its file went.
+abbrev pub Exits : Ordered → ℕ → ℕ → Type 0
+Exits order status exit = (closed : Result ⊤ Error) × (exit ≡ status_closed order closed status)

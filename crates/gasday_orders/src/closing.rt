@@ -2,7 +2,7 @@
 
 ghost use Rattle.std.specs.Prelude.{◌≡◌};
 ghost use Rattle.gasday_words.specs.Ordered.{seen};
-ghost use Rattle.gasday_orders.specs.Closing.{status_closed};
+ghost use Rattle.gasday_orders.specs.Closing.{Exits, status_closed};
 
 use crate::file::close;
 use crate::ran::{Ended, Ran};
@@ -41,11 +41,9 @@ fn is_repeated(order: Order<'_>, course: &Option<Course>) -> bool {
 
 /// Closes the file of an order that has ended, tells people what a gas day came to, or why the order didn't end well, and answers the
 /// exit status.
-pub fn end<D: Disk + Drop>(
-    rt: &HostRuntime,
-    order: Order<'_>,
-    ended: Ended<'_, FileStore<D>>,
-) -> u8 {
+pub fn end<D: Disk + Drop>(rt: &HostRuntime, order: Order<'_>, ended: Ended<'_, FileStore<D>>) -> u8
+    ensures { Exits (seen order.entry) ended.entry.ran.status result }
+{
     let Ended {
         ran,
         text,

@@ -1,6 +1,6 @@
 //! What a command answers to a text.
 
-ghost use Rattle.std.specs.Prelude.{◌≡◌, ◌≢◌, [], ◌∷◌, ◌++◌, IfOk};
+ghost use Rattle.std.specs.Prelude.{◌≡◌, ◌≢◌, [], ◌∷◌, ◌++◌, Some, IfOk, IsErr};
 ghost use Rattle.gd_text_part.specs.declared.fault.TextFault.TheVariants.{OutOfMemory};
 ghost use Rattle.gd_text.specs.Values.{asked_of as asked_by};
 ghost use Rattle.gasday_part.specs.Answers as spec;
@@ -77,7 +77,8 @@ pub fn summary_in(answer: &Result<Answer, AllocError>) -> Option<Summary> {
 
 /// The row with which an answer ends; where there was no memory for one, that is told in its place.
 pub fn last_of(answer: Result<Answer, AllocError>) -> Option<Reply>
-    ensures { IfOk answer (λ a. result ≡ spec.last_of (answer_seen a).replies) }
+    ensures last { IfOk answer (λ a. result ≡ spec.last_of (answer_seen a).replies) }
+    ensures short { IsErr answer → result ≡ Some spec.no_memory }
 {
     match answer {
         Ok(answer) if !answer.short => {
