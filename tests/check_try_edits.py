@@ -3,8 +3,9 @@
 
 Tries `tests/try_edits.py` on crates that are made here: an edit that turns nothing, the same hidden behind another, one that is
 hidden, one that doesn't compile, one that can't be applied, two of definitions; several in one function, of which one turns
-nothing, where that is copied and where it isn't; and looks at what it makes of lines that a check may say. The last line is
-'N passed, M failed', and the exit status is 0 only where none failed.
+nothing, where that is copied and where it isn't; several of definitions that name laws, of which one turns nothing, where the
+laws are copied and where they aren't; and looks at what it makes of lines that a check may say. The last line is 'N passed, M
+failed', and the exit status is 0 only where none failed.
 """
 
 import subprocess
@@ -14,6 +15,7 @@ from pathlib import Path
 
 sys.dont_write_bytecode = True
 import try_edits
+from copied_laws import CopiedLaws
 
 TOP = Path(__file__).resolve().parent.parent
 
@@ -119,8 +121,65 @@ use Rattle.twice.proofs.counting.zeros.Given as goal
 abbrev pub invariant-loop-at : goal.invariant-loop-at
 invariant-loop-at l = l.count ≤ l.at
 """
+LAWS = """\
+//! What follows from the definitions.
+
+ghost use Rattle.std.specs.Prelude.{◌≡◌, ◌+◌, ℕ};
+ghost use Rattle.lawful.specs.Doubled.{doubled};
+ghost use Rattle.lawful.specs.Tripled.{tripled};
+
+/// A number and itself.
+pub fn two_of_a_number()
+    ensures { (n : ℕ) → doubled n ≡ n + n }
+{}
+
+/// Twice a number and itself.
+pub fn three_of_a_number()
+    ensures { (n : ℕ) → tripled n ≡ n + n + n }
+{}
+"""
+BESIDE_A_TYPE = """\
+//! A law in a file that isn't copied.
+
+ghost use Rattle.std.specs.Prelude.{◌≡◌};
+ghost use Rattle.lawful.specs.Doubled.{doubled};
+
+use std::marker::Model;
+
+/// A digit.
+pub struct Digit {
+    pub value: u8,
+}
+
+impl Model for Digit {
+    ghost use Rattle.std.specs.Prelude.{ℕ};
+    ghost use Rattle.lawful.specs.Digits.{is_digit};
+
+    ghost Value = { ℕ };
+
+    ghost view = { λ digit. digit.value };
+
+    ghost invariant = { λ digit. is_digit digit.value };
+
+    ghost inverse = { λ n. record { value = n } };
+}
+
+/// None is twice none.
+pub fn two_of_none()
+    ensures { doubled 0 ≡ 0 }
+{}
+"""
 FILES = {
-    "crates.txt": "tried:\ntwice:\n",
+    "crates.txt": "tried:\ntwice:\nlawful:\n",
+    "crates/lawful/src/lib.rt": "//! For a trial of must-fail edits.\n#![tactic(auto)]\n\nmod laws;\nmod numbers;\n\n"
+                                "pub use laws::{\n    three_of_a_number, two_of_a_number,\n};\npub use numbers::{Digit, two_of_none};\n",
+    "crates/lawful/src/laws.rt": LAWS,
+    "crates/lawful/src/numbers.rt": BESIDE_A_TYPE,
+    "crates/lawful/specs/Lib.antt": "pub mod Digits\npub mod Doubled\npub mod Tripled\n",
+    "crates/lawful/specs/Digits.antt": "use Rattle.std.specs.Prelude.{ℕ, ◌<◌}\n\nabbrev pub is_digit : ℕ → Type 0\nis_digit n = n < 10\n",
+    "crates/lawful/specs/Doubled.antt": "use Rattle.std.specs.Prelude.{ℕ, ◌+◌}\n\nabbrev pub doubled : ℕ → ℕ\ndoubled n = n + n\n",
+    "crates/lawful/specs/Tripled.antt": "use Rattle.std.specs.Prelude.{ℕ, ◌+◌}\nuse Rattle.lawful.specs.Doubled.{doubled}\n\n"
+                                        "abbrev pub tripled : ℕ → ℕ\ntripled n = doubled n + n\n",
     "crates/twice/src/lib.rt": "//! For a trial of must-fail edits.\n#![tactic(auto)]\n\nmod counting;\n\npub use counting::{High, Low, zeros};\n",
     "crates/twice/src/counting.rt": COUNTING,
     "crates/twice/proofs/counting/zeros/Invariants.antt": INVARIANT,
@@ -147,10 +206,35 @@ EDITS = {
     "twice/next_but_one": ("src/counting.rt", "u16::from(self.number) + 1", "u16::from(self.number) + 2", "refused: "),
     "twice/no_next": ("src/counting.rt", "u16::from(self.number) + 1", "u16::from(self.number)", "refused: "),
     "twice/half": ("src/counting.rt", "High { number: low.number }", "High { number: low.number / 2 }", "refused: "),
+    "lawful/doubled_is_one_more": ("specs/Doubled.antt", "doubled n = n + n", "doubled n = n + 1", "refused: lawful::laws_again_"),
+    "lawful/tripled_is_one_more": ("specs/Tripled.antt", "tripled n = doubled n + n", "tripled n = doubled n + 1", "refused: lawful::laws_again_"),
+    "lawful/doubled_by_the_other_law": ("specs/Doubled.antt", "doubled n = n + n", "doubled n = n", "refused: lawful::laws_again_"),
+    "lawful/one_of_none": ("specs/Doubled.antt", "doubled n = n + n", "doubled n = n + n + 1", "refused: two_of_none: "),
+    "lawful/doubled_as_it_was": ("specs/Doubled.antt", "doubled n = n + n", "doubled n = n + n + 0", "FAILED: the crate is still proved"),
     "twice/none": ("src/counting.rt", "High { number: low.number }", "High { number: low.number / 3 }", "refused in round 2: "),
 }
 # The functions that edits of definitions name.
-NAMED = {"four_more": "second_next"}
+NAMED = {
+    "tried": {"four_more": "second_next"},
+    "lawful": {
+        "doubled_is_one_more": "two_of_a_number",
+        "tripled_is_one_more": "laws::three_of_a_number",
+        "doubled_by_the_other_law": "three_of_a_number",
+        "one_of_none": "two_of_none",
+        "doubled_as_it_was": "two_of_a_number",
+    },
+}
+
+# The law and the file of an edit of a definition, and whether it is tried in a copy: not with a law in a file with types, of which
+# there would be others, nor where a type carries what the edit turns, nor where it turns anything but definitions and lemmas.
+COPIED = {
+    ("two_of_a_number", "specs/Doubled.antt"): True,
+    ("laws::three_of_a_number", "specs/Tripled.antt"): True,
+    ("numbers::three_of_a_number", "specs/Tripled.antt"): False,
+    ("two_of_none", "specs/Doubled.antt"): False,
+    ("two_of_a_number", "specs/Digits.antt"): False,
+    ("two_of_a_number", "src/laws.rt"): False,
+}
 
 # Lines that a check says of a function, and whether they refuse it, hide it or can be read.
 LINES = {
@@ -175,14 +259,15 @@ def lay(folder):
         crate, edit = name.split("/")
         (folder / f"crates/{crate}/must-fail").mkdir(exist_ok=True)
         (folder / f"crates/{crate}/must-fail/{edit}.edit").write_text(f"file: {file}\nold: {old}\nnew: {new}\n")
-    (folder / "crates/tried/must-fail/refused-by.md").write_text("".join(f"- {edit}: {function}\n" for edit, function in NAMED.items()))
+    for crate, named in NAMED.items():
+        (folder / f"crates/{crate}/must-fail/refused-by.md").write_text("".join(f"- {edit}: {function}\n" for edit, function in named.items()))
 
 
 def of_edits(folder):
     """What is wrong with what is told of the edits."""
     lay(folder)
     ran = subprocess.run([TOP / "tests/try_edits.py", "--root", folder], stdin=subprocess.DEVNULL, stdout=subprocess.PIPE, text=True)
-    told = dict(line.split(": ", 1) for line in ran.stdout.splitlines() if line.startswith(("tried/", "twice/")))
+    told = dict(line.split(": ", 1) for line in ran.stdout.splitlines() if line.startswith(("tried/", "twice/", "lawful/")))
     faults = [f"{name}: {told.get(f'{name}.edit', 'nothing is told')}, and not {wanted}"
               for name, (*_, wanted) in EDITS.items() if not told.get(f"{name}.edit", "").startswith(wanted)]
     failing = sum(wanted.startswith("FAILED") for *_, wanted in EDITS.values())
@@ -190,6 +275,13 @@ def of_edits(folder):
     if ran.returncode != 1 or not ran.stdout.endswith(last + "\n"):
         faults.append(f"status {ran.returncode} and {ran.stdout.splitlines()[-1:]}, and not 1 and {last}")
     return faults, len(EDITS) + 1
+
+
+def of_copies(folder):
+    """What is wrong with which laws are copied."""
+    laws = CopiedLaws("lawful", folder / "crates/lawful", [(key, key[0], {key[1]: ""}) for key in COPIED])
+    faults = [f"{key}: {key in laws.twins}, and not {wanted}" for key, wanted in COPIED.items() if (key in laws.twins) != wanted]
+    return faults, len(COPIED)
 
 
 def of_lines():
@@ -205,7 +297,7 @@ def of_lines():
 
 def main():
     with tempfile.TemporaryDirectory(prefix="gasday-edits-trial-") as folder:
-        results = [of_lines(), of_edits(Path(folder))]
+        results = [of_lines(), of_edits(Path(folder)), of_copies(Path(folder))]
     faults, tried = [it for found, _ in results for it in found], sum(count for _, count in results)
     for it in faults:
         print(f"FAIL {it}")

@@ -8,9 +8,10 @@ function, the first turns that, and each further one a copy of it under another 
 it has such files, a copy without any edit stands beside these, and only where no goal of that is refused what is told of the
 others counts. An edit that is told only to call a function that isn't proved, or whose function isn't copied, goes to the
 next round; what isn't clearly refused there is tried alone and from nothing, as `rt must-fail` does, and so is an edit that
-turns more than bodies. What an edit of a definition turns is read anew over what a check of the crate as it stands has proved;
-where must-fail/refused-by.md has a line `- EDIT: FUNCTION` with a function that must be refused for it, that one is checked
-first.
+turns more than bodies. Edits of definitions for which must-fail/refused-by.md has a line `- EDIT: LAW`, with a law that must be
+refused, are tried in the same check, each in copies of the definitions and of that law (copied_laws.py); what isn't refused there
+is tried by that law in the crate itself. What another edit of a definition turns is read anew over what a check of the crate as
+it stands has proved.
 
 --libraries names a copy of the repository in whose crates/*/out the libraries stand that `rt ci` has just built of the same
 files; without it they are built as `rt must-fail` builds them. With --beside that `rt ci` is still at work: LOG is what it has
@@ -33,6 +34,7 @@ import time
 from concurrent.futures import FIRST_COMPLETED, ThreadPoolExecutor, wait
 from pathlib import Path
 
+from copied_laws import AGAIN, CopiedLaws
 from lanes import ROOM, lanes
 from toolchain import toolchain
 
@@ -58,8 +60,6 @@ REJECTED = re.compile(r"\berror\[[\w-]+\]")
 # What the log of a gate says of a crate whose library stands, and its last line.
 STANDING = re.compile(r"^rt: (\w+) (?:proved|is kept)\b", re.M)
 GATE_ENDED = re.compile(r"^GATE ENDED$", re.M)
-# What stands between a function's name and a number in that of a copy of it.
-AGAIN = "_again_"
 # How long to wait between two looks at that log, and so between the starts of two checks beside the gate.
 SECONDS = 10
 
@@ -348,9 +348,12 @@ class Room:
             place.write_text("\n".join([*text[:behind], *twin.text(whole), *text[behind:]]), encoding="utf-8")
             twin.lay(self.copy)
 
-    def check(self, edits, paths, keeps, twins=()):
-        """What a check of these functions, with these edits and copies of functions, says."""
+    def check(self, edits, paths, keeps, twins=(), laws=None):
+        """What a check of these functions, with these edits and copies of functions, and of the copies of laws says."""
         self.lay(edits, twins)
+        if laws:
+            laws.lay(self.copy)
+            paths = [*paths, *laws.functions()]
         flags = [*ONE_JOB, "--allow-holes"] if paths else ONE_JOB
         words = [RT.rtlib.RATTLE, "check", *self.crate.words(flags, keeps=False)]
         for path in paths or [""]:
@@ -418,27 +421,46 @@ def verdict_of_twin(twin, unedited, said):
     return Verdict(twin.edit.name, True, refusal) if refusal else None
 
 
-def in_round(room, edits, is_last, twins=()):
-    """Tries edits of different functions together, and further ones of these functions in copies of them. Gives verdicts, and the
-    edits that are hidden behind others."""
+def in_round(room, edits, is_last, twins=(), laws=None):
+    """Tries edits of different functions together, further ones of these functions in copies of them, and copies of laws. Gives
+    verdicts, and the edits that are hidden behind others."""
     functions = [it for edit in edits for it in edit.functions] + [it.function for it in twins]
-    output = room.check(edits, [it.path for it in functions], not is_last, twins)
+    output = room.check(edits, [it.path for it in functions], not is_last, twins, laws)
     said, copied, unedited = Said(output), [it for it in twins if it.edit], [it for it in twins if not it.edit]
-    if not said.ended and twins:
+    if not said.ended and (twins or laws):
         verdicts, hidden = in_round(room, edits, False)
         return verdicts, hidden + [it.edit for it in copied]
     if not said.ended:
         return unended(room, edits, output, is_last)
+    if laws:
+        laws.said = said
     found = [(it, verdict_of(room, it, said, len(edits) == 1)) for it in edits]
     found += [(it.edit, verdict_of_twin(it, unedited, said)) for it in copied]
     return [verdict for _, verdict in found if verdict], [edit for edit, verdict in found if not verdict]
 
 
-def by_named(room, edit):
-    """What the function that an edit of a definition names comes to, or None where that isn't refused or no function is named."""
+def named_for(edit):
+    """The function that must be refused for an edit of a definition, or None where none is named."""
     place = Path(edit.path)
     told = place.with_name("refused-by.md")
-    function = dict(NAMED.findall(told.read_text(encoding="utf-8"))).get(place.stem) if told.exists() else None
+    return dict(NAMED.findall(told.read_text(encoding="utf-8"))).get(place.stem) if told.exists() else None
+
+
+def laws_of(crate, edits):
+    """Copies for those edits of definitions that name a law."""
+    return CopiedLaws(crate.name, crate.folder, [(it.name, named_for(it), it.texts) for it in edits if named_for(it)])
+
+
+def refused_in_copies(laws):
+    """The edits of definitions whose law's copy is refused, where that without an edit is proved."""
+    said = {name: [laws.said.lines.get(it, "") for it in laws.copies_for(name)] for name in laws.twins} if laws.said else {}
+    return [Verdict(name, True, f"{laws.copies_for(name)[0]}: {turned}") for name, (turned, unturned) in said.items()
+            if unturned.startswith(PROVED) and (STANDS.search(turned) or LEFT.search(turned))]
+
+
+def by_named(room, edit):
+    """What the function that an edit of a definition names comes to, or None where that isn't refused or no function is named."""
+    function = named_for(edit)
     if not function:
         return None
     said = Said(room.check([edit], [function], keeps=False))
@@ -447,12 +469,17 @@ def by_named(room, edit):
     return Verdict(edit.name, True, f"{function}: {refusal}") if said.ended and refusal else None
 
 
-def of_definitions(crate, edits):
-    """Tries edits of definitions: by the functions that they name, and the others each by itself."""
+def of_definitions(crate, edits, laws):
+    """Tries edits of definitions: by the laws that they name, in copies, if that wasn't done beside edits of bodies, and then one by
+    one, and the others each by itself."""
     with Room(crate) as room:
-        found = [(edit, by_named(room, edit)) for edit in edits]
+        if not laws.said and len(laws.twins) > 1:
+            laws.said = Said(room.check([], [], keeps=False, laws=laws))
+        verdicts = refused_in_copies(laws)
+        decided = {it.edit for it in verdicts}
+        found = [(edit, by_named(room, edit)) for edit in edits if edit.name not in decided]
     left = [edit for edit, verdict in found if not verdict]
-    verdicts = [verdict for _, verdict in found if verdict]
+    verdicts += [verdict for _, verdict in found if verdict]
     return verdicts + (by_itself(crate, left) if len(left) > 1 else [alone(crate, it) for it in left])
 
 
@@ -472,15 +499,15 @@ def by_itself(crate, edits):
     return verdicts
 
 
-def in_rounds(crate, edits):
-    """Tries edits of bodies, in as many rounds as it takes."""
+def in_rounds(crate, edits, laws):
+    """Tries edits of bodies, in as many rounds as it takes, and copies of laws beside the first."""
     verdicts, number = [], 0
     with Room(crate) as room:
         while edits:
             number += 1
             chosen, left = of_one_round(edits)
             twins, left = with_twins(crate.folder, left)
-            found, hidden = in_round(room, chosen, not left, twins)
+            found, hidden = in_round(room, chosen, not left, twins, laws if laws.twins and number == 1 else None)
             # (what is hidden with nothing decided beside it would be so again)
             found += [alone(crate, it) for it in hidden] if not found else []
             verdicts += [dataclasses.replace(it, number=number) for it in found]
@@ -502,8 +529,9 @@ def tried(crate, paths):
     verdicts += [Verdict(f"{crate.name}/{os.path.basename(it)}", False, "this is no name of an edit") for it in bad]
     inside = [it for it in edits if it.functions]
     whole = [it for it in edits if not it.functions]
-    verdicts += in_rounds(crate, inside)
-    verdicts += of_definitions(crate, whole)
+    laws = laws_of(crate, whole)
+    verdicts += in_rounds(crate, inside, laws)
+    verdicts += of_definitions(crate, whole, laws)
     return sorted(verdicts, key=lambda it: it.edit), time.monotonic() - began
 
 
