@@ -3,9 +3,9 @@
 
 Tries `tests/try_edits.py` on crates that are made here: an edit that turns nothing, the same hidden behind another, one that is
 hidden, one that doesn't compile, one that can't be applied, two of definitions; several in one function, of which one turns
-nothing, where that is copied and where it isn't; several of definitions that name laws, of which one turns nothing, where the
-laws are copied and where they aren't; and looks at what it makes of lines that a check may say. The last line is 'N passed, M
-failed', and the exit status is 0 only where none failed.
+nothing, where that is copied and where it isn't; several of definitions that name laws, of which one turns nothing and two can't
+be read, where the laws are copied and where they aren't; and looks at what it makes of lines that a check may say. The last line
+is 'N passed, M failed', and the exit status is 0 only where none failed.
 """
 
 import subprocess
@@ -211,6 +211,8 @@ EDITS = {
     "lawful/doubled_by_the_other_law": ("specs/Doubled.antt", "doubled n = n + n", "doubled n = n", "refused: lawful::laws_again_"),
     "lawful/one_of_none": ("specs/Doubled.antt", "doubled n = n + n", "doubled n = n + n + 1", "refused: two_of_none: "),
     "lawful/doubled_as_it_was": ("specs/Doubled.antt", "doubled n = n + n", "doubled n = n + n + 0", "FAILED: the crate is still proved"),
+    "lawful/no_definition": ("specs/Doubled.antt", "doubled n = n + n", "doubled n = n +", "FAILED: BAD EDIT: "),
+    "lawful/no_such_number": ("specs/Tripled.antt", "tripled n = doubled n + n", "tripled n = doubled n + m", "FAILED: BAD EDIT: "),
     "twice/none": ("src/counting.rt", "High { number: low.number }", "High { number: low.number / 3 }", "refused in round 2: "),
 }
 # The functions that edits of definitions name.
@@ -222,6 +224,8 @@ NAMED = {
         "doubled_by_the_other_law": "three_of_a_number",
         "one_of_none": "two_of_none",
         "doubled_as_it_was": "two_of_a_number",
+        "no_definition": "two_of_a_number",
+        "no_such_number": "three_of_a_number",
     },
 }
 

@@ -125,11 +125,11 @@ class CopiedLaws:
 
     def __init__(self, crate, folder, edits):
         # (what a check of all copies has said, once one did)
-        self.twins, self.said, whole = {}, None, Modules(crate, folder)
-        carried = whole.carried(folder)
+        self.twins, self.said, self.whole = {}, None, Modules(crate, folder)
+        carried = self.whole.carried(folder)
         for name, law, texts in edits:
             place, turned = place_of(folder, law), {tuple(it.removesuffix(".antt").split("/")): text for it, text in texts.items()}
-            if place and whole.texts.keys() >= turned.keys() and carried.isdisjoint(whole.standing_on(turned)):
+            if place and self.whole.texts.keys() >= turned.keys() and carried.isdisjoint(self.whole.standing_on(turned)):
                 self.twins[name] = LawTwin(crate, folder, place[0], frozenset(turned), turned, len(self.twins) + 2), place[1]
         modules = frozenset().union(*(it.modules for it, _ in self.twins.values()))
         self.unturned = {it.file: LawTwin(crate, folder, it.file, modules, {}, 1) for it, _ in self.twins.values()}
@@ -138,6 +138,11 @@ class CopiedLaws:
         """The names of the law's copies, of the one for this edit and of the one without."""
         twin, law = self.twins[name]
         return twin.function(law), self.unturned[twin.file].function(law)
+
+    def modules_for(self, name):
+        """The names of the copies of modules for this edit."""
+        twin, _ = self.twins[name]
+        return {f"{module}{AGAIN}{twin.number}" for _, module in self.whole.standing_on(twin.modules)}
 
     def functions(self):
         """The names of all copies of the laws that must be refused, each once."""

@@ -53,6 +53,8 @@ CALLS = re.compile(r"it calls `[^;]*`, which (?:is|are) not proved|depends on a 
 UNTOLD = "could not tell"
 UNCOVERED = "the borrow checker does not cover"
 ENDED = re.compile(r"^only=\d+ ", re.M)
+# What it says of a module of definitions that it can't read.
+UNREAD = re.compile(r"^\./specs/(\w+)\.antt:\d+:\d+: error\b", re.M)
 # A line that names the function which must be refused for an edit of a definition.
 NAMED = re.compile(r"^- (\w+): (\S+)$", re.M)
 NO_FUNCTION = re.compile(r"has no function `([^`]+)`")
@@ -272,10 +274,11 @@ def of_one_round(edits):
 
 
 class Said:
-    """What a check said of each function: its line, the places of its goals that are left, and whether it was read."""
+    """What a check said of each function: its line, the places of its goals that are left, and whether it was read; and which modules
+    of definitions it couldn't read, on which nothing that stands on them shows anything."""
 
     def __init__(self, output):
-        self.ended, self.lines, self.goals = bool(ENDED.search(output)), {}, {}
+        self.ended, self.lines, self.goals, self.unread = bool(ENDED.search(output)), {}, {}, set(UNREAD.findall(output))
         notes = []
         for line in output.split("\n"):
             told = TOLD.match(line)
@@ -452,10 +455,11 @@ def laws_of(crate, edits):
 
 
 def refused_in_copies(laws):
-    """The edits of definitions whose law's copy is refused, where that without an edit is proved."""
+    """The edits of definitions whose law's copy is refused, where that without an edit is proved, and the definitions can be read."""
     said = {name: [laws.said.lines.get(it, "") for it in laws.copies_for(name)] for name in laws.twins} if laws.said else {}
     return [Verdict(name, True, f"{laws.copies_for(name)[0]}: {turned}") for name, (turned, unturned) in said.items()
-            if unturned.startswith(PROVED) and (STANDS.search(turned) or LEFT.search(turned))]
+            if unturned.startswith(PROVED) and (STANDS.search(turned) or LEFT.search(turned))
+            and laws.modules_for(name).isdisjoint(laws.said.unread)]
 
 
 def by_named(room, edit):
@@ -466,7 +470,7 @@ def by_named(room, edit):
     said = Said(room.check([edit], [function], keeps=False))
     lines = [line for name, line in said.lines.items() if f"::{name}".endswith(f"::{function}")]
     refusal = next((it for it in lines if STANDS.search(it) or LEFT.search(it)), None)
-    return Verdict(edit.name, True, f"{function}: {refusal}") if said.ended and refusal else None
+    return Verdict(edit.name, True, f"{function}: {refusal}") if said.ended and refusal and not said.unread else None
 
 
 def of_definitions(crate, edits, laws):
