@@ -169,12 +169,28 @@ pub fn two_of_none()
     ensures { doubled 0 ≡ 0 }
 {}
 """
+CALLING = """\
+//! A law that stands on one of another file.
+
+ghost use Rattle.std.specs.Prelude.{◌≡◌};
+ghost use Rattle.lawful.specs.Doubled.{doubled};
+
+use crate::numbers::two_of_none;
+
+/// None is twice none.
+pub fn next_to_none()
+    ensures { doubled 0 ≡ 0 }
+{
+    two_of_none();
+}
+"""
 FILES = {
     "crates.txt": "tried:\ntwice:\nlawful:\n",
-    "crates/lawful/src/lib.rt": "//! For a trial of must-fail edits.\n#![tactic(auto)]\n\nmod laws;\nmod numbers;\n\n"
+    "crates/lawful/src/lib.rt": "//! For a trial of must-fail edits.\n#![tactic(auto)]\n\nmod calls;\nmod laws;\nmod numbers;\n\npub use calls::next_to_none;\n"
                                 "pub use laws::{\n    three_of_a_number, two_of_a_number,\n};\npub use numbers::{Digit, two_of_none};\n",
     "crates/lawful/src/laws.rt": LAWS,
     "crates/lawful/src/numbers.rt": BESIDE_A_TYPE,
+    "crates/lawful/src/calls.rt": CALLING,
     "crates/lawful/specs/Lib.antt": "pub mod Digits\npub mod Doubled\npub mod Tripled\n",
     "crates/lawful/specs/Digits.antt": "use Rattle.std.specs.Prelude.{ℕ, ◌<◌}\n\nabbrev pub is_digit : ℕ → Type 0\nis_digit n = n < 10\n",
     "crates/lawful/specs/Doubled.antt": "use Rattle.std.specs.Prelude.{ℕ, ◌+◌}\n\nabbrev pub doubled : ℕ → ℕ\ndoubled n = n + n\n",
@@ -215,6 +231,8 @@ EDITS = {
     "lawful/no_such_number": ("specs/Tripled.antt", "tripled n = doubled n + n", "tripled n = doubled n + m", "FAILED: BAD EDIT: "),
     "twice/none": ("src/counting.rt", "High { number: low.number }", "High { number: low.number / 3 }", "refused in round 2: "),
 }
+# What is told of a name that is of no edit.
+STRAYS = {"lawful/no_such_edit": "FAILED: refused-by.md names it, and it isn't there"}
 # The functions that edits of definitions name.
 NAMED = {
     "tried": {"four_more": "second_next"},
@@ -225,13 +243,16 @@ NAMED = {
         "one_of_none": "two_of_none",
         "doubled_as_it_was": "two_of_a_number",
         "no_definition": "two_of_a_number",
+        "no_such_edit": "two_of_a_number",
         "no_such_number": "three_of_a_number",
     },
 }
 
 # The law and the file of an edit of a definition, and whether it is tried in a copy: not with a law in a file with types, of which
-# there would be others, nor where a type carries what the edit turns, nor where it turns anything but definitions and lemmas.
+# there would be others, or which calls other files' functions, nor where a type carries what the edit turns, nor where it turns
+# anything but definitions and lemmas.
 COPIED = {
+    ("next_to_none", "specs/Doubled.antt"): False,
     ("two_of_a_number", "specs/Doubled.antt"): True,
     ("laws::three_of_a_number", "specs/Tripled.antt"): True,
     ("numbers::three_of_a_number", "specs/Tripled.antt"): False,
@@ -272,13 +293,14 @@ def of_edits(folder):
     lay(folder)
     ran = subprocess.run([TOP / "tests/try_edits.py", "--root", folder], stdin=subprocess.DEVNULL, stdout=subprocess.PIPE, text=True)
     told = dict(line.split(": ", 1) for line in ran.stdout.splitlines() if line.startswith(("tried/", "twice/", "lawful/")))
-    faults = [f"{name}: {told.get(f'{name}.edit', 'nothing is told')}, and not {wanted}"
-              for name, (*_, wanted) in EDITS.items() if not told.get(f"{name}.edit", "").startswith(wanted)]
-    failing = sum(wanted.startswith("FAILED") for *_, wanted in EDITS.values())
-    last = f"{len(EDITS) - failing} passed, {failing} failed"
+    wanted = {**{name: it for name, (*_, it) in EDITS.items()}, **STRAYS}
+    faults = [f"{name}: {told.get(f'{name}.edit', 'nothing is told')}, and not {it}"
+              for name, it in wanted.items() if not told.get(f"{name}.edit", "").startswith(it)]
+    failing = sum(it.startswith("FAILED") for it in wanted.values())
+    last = f"{len(wanted) - failing} passed, {failing} failed"
     if ran.returncode != 1 or not ran.stdout.endswith(last + "\n"):
         faults.append(f"status {ran.returncode} and {ran.stdout.splitlines()[-1:]}, and not 1 and {last}")
-    return faults, len(EDITS) + 1
+    return faults, len(wanted) + 1
 
 
 def of_copies(folder):

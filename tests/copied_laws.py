@@ -2,7 +2,9 @@
 for these edits: one check of all copies tells of all edits, and may try other things too.
 
 A copy has the modules that an edit turns and those that stand on them, under other names, which end in a number, and the file of
-the law, whose clauses are read in these modules. Copy number 1 has no edit: where its law isn't proved, a copy shows nothing.
+the law, whose clauses are read in these modules. Copy number 1 has no edit, and the modules of all the others: where its law isn't
+proved, these show nothing. Nor would they where a law stood on copies and on what they are copies of, so one that calls functions
+of other files isn't copied, nor one that stands on what a type carries.
 """
 
 import dataclasses
@@ -18,9 +20,9 @@ DECLARES, ROOT = "Lib.antt", "src/lib.rt"
 OF_A_ROOT = re.compile(r"^(?:#!\[.*|(?:pub )?mod \w+;|pub use [^;]*;)\n", re.M)
 FUNCTIONS = re.compile(r"^(?:pub(?:\([a-z]+\))? )?fn (\w+)", re.M)
 # What a type or a trait's impl carries with it, as an invariant.
-CARRIED = re.compile(r"^    ghost \w+ = \{.*?\};$", re.M | re.S)
-# What a file has that isn't one of functions alone. (A copy of a type is another type.)
-OTHERS = re.compile(r"^(?:pub(?:\([a-z]+\))? )?(?:struct|enum|union|trait|impl|static|macro_rules!)\b", re.M)
+CARRIED = re.compile(r"^ +ghost \w+ = \{.*?\};$", re.M | re.S)
+# What a file has that isn't one of laws alone. (A copy of a type is another type.)
+OTHERS = re.compile(r"^(?:(?:pub(?:\([a-z]+\))? )?(?:struct|enum|union|trait|impl|static|macro_rules!)|use (?:crate|super))\b", re.M)
 
 
 def read(path):
@@ -50,12 +52,13 @@ class Modules:
         return found
 
     def carried(self, folder):
-        """The modules that types of the crate carry something of: a copy of what stands on these would stand on both."""
+        """The modules that types of the crate carry something of."""
         found = set()
         for text in map(read, Path(folder, "src").rglob("*.rt")):
             carried = " ".join(CARRIED.findall(text))
-            for use in re.finditer(self.named.pattern + r"(?:\.\{([^}]*)\}| as (\w+))", text):
-                names = [it.split(" as ")[-1].strip(" ◌") for it in (use[3] or use[4]).split(",")]
+            found.update(self.named.findall(carried))
+            for use in re.finditer(self.named.pattern + r"(?:\.\{([^}]*)\}| as (\w+)|(?=;))", text):
+                names = [it.split(" as ")[-1].strip(" ◌") for it in (use[3] or use[4] or use[2]).split(",")]
                 found |= {use.groups()[:2]} if any(it in carried for it in names) else set()
         return found
 
@@ -93,15 +96,22 @@ class LawTwin:
         def again(text):
             return whole.again(text, copied, self.number)
 
-        for key in copied:
-            write(Path(to, key[0], f"{key[1]}{AGAIN}{self.number}.antt"), again(self.turned.get(key) or whole.texts[key]))
+        for part, name in copied:
+            text = self.turned.get((part, name), whole.texts[part, name])
+            write(Path(to, part, f"{name}{AGAIN}{self.number}.antt"), again(text))
         write(Path(to, "src", f"{self.module}.rt"), again(OF_A_ROOT.sub("", source)))
         for law in FUNCTIONS.findall(source):
-            path, own = Path("proofs", *inside, law), Path("proofs", self.module, law)
-            for file in Path(self.folder, path).rglob("*.antt"):
-                text = again(read(file)).replace(f"Rattle.{self.crate}.{'.'.join(path.parts)}.", f"Rattle.{self.crate}.{'.'.join(own.parts)}.")
-                write(Path(to, own, file.relative_to(Path(self.folder, path))), text)
+            path = Path(self.folder, "proofs", *inside, law)
+            for file in path.rglob("*.antt"):
+                write(Path(to, "proofs", self.module, law, file.relative_to(path)), self.moved(again(read(file)), inside, source))
         self.declare(to, copied)
+
+    def moved(self, text, inside, source):
+        """A text of a proof that names the proofs of the file's copy in the place of the file's."""
+        for law in FUNCTIONS.findall(source):
+            own, copy = [*inside, law], [self.module, law]
+            text = text.replace(*(f"Rattle.{self.crate}.proofs.{'.'.join(it)}." for it in (own, copy)))
+        return text
 
     def declare(self, to, copied):
         """Declares the copies where the crate declares what they are copies of."""
@@ -113,7 +123,7 @@ class LawTwin:
 
 
 def place_of(folder, law):
-    """The file of a law and its own name, by what it is called. None where no file of functions alone has it, or several have."""
+    """The file of a law and its own name, by what it is called. None where no file of laws alone has it, or several have."""
     *inside, own = law.split("::")
     files = [it for it in Path(folder, "src").glob("*.rt") if own in FUNCTIONS.findall(read(it)) and inside in ([], [it.stem])]
     return (f"src/{files[0].name}", own) if len(files) == 1 and not OTHERS.search(read(files[0])) else None
@@ -121,14 +131,15 @@ def place_of(folder, law):
 
 class CopiedLaws:
     """Copies for edits, of each of which its name, the law that must be refused for it, and the texts of the files that it turns are
-    given; and the same copies without an edit."""
+    given; and one of all their modules without an edit."""
 
     def __init__(self, crate, folder, edits):
         # (what a check of all copies has said, once one did)
         self.twins, self.said, self.whole = {}, None, Modules(crate, folder)
         carried = self.whole.carried(folder)
         for name, law, texts in edits:
-            place, turned = place_of(folder, law), {tuple(it.removesuffix(".antt").split("/")): text for it, text in texts.items()}
+            place = place_of(folder, law)
+            turned = {tuple(it.removesuffix(".antt").split("/")): text for it, text in texts.items()}
             if place and self.whole.texts.keys() >= turned.keys() and carried.isdisjoint(self.whole.standing_on(turned)):
                 self.twins[name] = LawTwin(crate, folder, place[0], frozenset(turned), turned, len(self.twins) + 2), place[1]
         modules = frozenset().union(*(it.modules for it, _ in self.twins.values()))
@@ -139,10 +150,11 @@ class CopiedLaws:
         twin, law = self.twins[name]
         return twin.function(law), self.unturned[twin.file].function(law)
 
-    def modules_for(self, name):
-        """The names of the copies of modules for this edit."""
+    def files_for(self, name):
+        """The files of this edit's copy that have to be read, so that its law shows anything: but for lemmas that it doesn't turn."""
         twin, _ = self.twins[name]
-        return {f"{module}{AGAIN}{twin.number}" for _, module in self.whole.standing_on(twin.modules)}
+        modules = [it for it in self.whole.standing_on(twin.modules) if it[0] == PARTS[0] or it in twin.modules]
+        return {f"src/{twin.module}.rt", *(f"{part}/{module}{AGAIN}{twin.number}.antt" for part, module in modules)}
 
     def functions(self):
         """The names of all copies of the laws that must be refused, each once."""

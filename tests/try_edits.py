@@ -9,9 +9,10 @@ it has such files, a copy without any edit stands beside these, and only where n
 others counts. An edit that is told only to call a function that isn't proved, or whose function isn't copied, goes to the
 next round; what isn't clearly refused there is tried alone and from nothing, as `rt must-fail` does, and so is an edit that
 turns more than bodies. Edits of definitions for which must-fail/refused-by.md has a line `- EDIT: LAW`, with a law that must be
-refused, are tried in the same check, each in copies of the definitions and of that law (copied_laws.py); what isn't refused there
-is tried by that law in the crate itself. What another edit of a definition turns is read anew over what a check of the crate as
-it stands has proved.
+refused, are tried in the same check, or in one of their own where the crate has none of bodies, each in copies of the definitions
+and of that law (copied_laws.py); what isn't refused there is tried by that law in the crate itself. What other edits of definitions
+turn is read anew over what a check of the crate as it stands has proved, or from nothing where there is one alone. A line that
+names no edit fails.
 
 --libraries names a copy of the repository in whose crates/*/out the libraries stand that `rt ci` has just built of the same
 files; without it they are built as `rt must-fail` builds them. With --beside that `rt ci` is still at work: LOG is what it has
@@ -53,8 +54,8 @@ CALLS = re.compile(r"it calls `[^;]*`, which (?:is|are) not proved|depends on a 
 UNTOLD = "could not tell"
 UNCOVERED = "the borrow checker does not cover"
 ENDED = re.compile(r"^only=\d+ ", re.M)
-# What it says of a module of definitions that it can't read.
-UNREAD = re.compile(r"^\./specs/(\w+)\.antt:\d+:\d+: error\b", re.M)
+# What it says of a file in which something can't be read, or isn't proved as it stands there.
+UNREAD = re.compile(r"^(?:\./)?((?:src|specs|proofs)/[\w/]+\.\w+):\d+:\d+: error\b", re.M)
 # A line that names the function which must be refused for an edit of a definition.
 NAMED = re.compile(r"^- (\w+): (\S+)$", re.M)
 NO_FUNCTION = re.compile(r"has no function `([^`]+)`")
@@ -274,11 +275,12 @@ def of_one_round(edits):
 
 
 class Said:
-    """What a check said of each function: its line, the places of its goals that are left, and whether it was read; and which modules
-    of definitions it couldn't read, on which nothing that stands on them shows anything."""
+    """What a check said of each function: its line, the places of its goals that are left, and whether it was read; and the files in
+    which it found errors."""
 
     def __init__(self, output):
-        self.ended, self.lines, self.goals, self.unread = bool(ENDED.search(output)), {}, {}, set(UNREAD.findall(output))
+        self.ended, self.lines, self.goals = bool(ENDED.search(output)), {}, {}
+        self.unread = set(UNREAD.findall(output))
         notes = []
         for line in output.split("\n"):
             told = TOLD.match(line)
@@ -454,12 +456,14 @@ def laws_of(crate, edits):
     return CopiedLaws(crate.name, crate.folder, [(it.name, named_for(it), it.texts) for it in edits if named_for(it)])
 
 
-def refused_in_copies(laws):
-    """The edits of definitions whose law's copy is refused, where that without an edit is proved, and the definitions can be read."""
-    said = {name: [laws.said.lines.get(it, "") for it in laws.copies_for(name)] for name in laws.twins} if laws.said else {}
-    return [Verdict(name, True, f"{laws.copies_for(name)[0]}: {turned}") for name, (turned, unturned) in said.items()
-            if unturned.startswith(PROVED) and (STANDS.search(turned) or LEFT.search(turned))
-            and laws.modules_for(name).isdisjoint(laws.said.unread)]
+def refused_in_copy(laws, name):
+    """The verdict on an edit of a definition whose law's copy is refused, where that without an edit is proved and what the edit
+    turns can be read, or None."""
+    copy, unturned = laws.copies_for(name)
+    said = laws.said.lines.get(copy, "")
+    is_proved = laws.said.lines.get(unturned, "").startswith(PROVED)
+    shows = laws.said.ended and is_proved and laws.said.unread.isdisjoint(laws.files_for(name))
+    return Verdict(name, True, f"{copy}: {said}") if shows and (STANDS.search(said) or LEFT.search(said)) else None
 
 
 def by_named(room, edit):
@@ -470,7 +474,8 @@ def by_named(room, edit):
     said = Said(room.check([edit], [function], keeps=False))
     lines = [line for name, line in said.lines.items() if f"::{name}".endswith(f"::{function}")]
     refusal = next((it for it in lines if STANDS.search(it) or LEFT.search(it)), None)
-    return Verdict(edit.name, True, f"{function}: {refusal}") if said.ended and refusal and not said.unread else None
+    is_read = not any(it in edit.texts or not it.startswith("proofs/") for it in said.unread)
+    return Verdict(edit.name, True, f"{function}: {refusal}") if said.ended and refusal and is_read else None
 
 
 def of_definitions(crate, edits, laws):
@@ -479,7 +484,7 @@ def of_definitions(crate, edits, laws):
     with Room(crate) as room:
         if not laws.said and len(laws.twins) > 1:
             laws.said = Said(room.check([], [], keeps=False, laws=laws))
-        verdicts = refused_in_copies(laws)
+        verdicts = [*filter(None, (refused_in_copy(laws, it) for it in laws.twins))] if laws.said else []
         decided = {it.edit for it in verdicts}
         found = [(edit, by_named(room, edit)) for edit in edits if edit.name not in decided]
     left = [edit for edit, verdict in found if not verdict]
@@ -520,6 +525,13 @@ def in_rounds(crate, edits, laws):
     return verdicts
 
 
+def strays(paths):
+    """The names in must-fail/refused-by.md that are of none of these edits."""
+    told = Path(paths[0]).with_name("refused-by.md") if paths else None
+    named = NAMED.findall(told.read_text(encoding="utf-8")) if told and told.exists() else []
+    return [name for name, _ in named if name not in [Path(it).stem for it in paths]]
+
+
 def tried(crate, paths):
     """What the edits of a crate come to, and how long that took."""
     began, verdicts, edits = time.monotonic(), [], []
@@ -531,6 +543,7 @@ def tried(crate, paths):
         else:
             edits.append(edit)
     verdicts += [Verdict(f"{crate.name}/{os.path.basename(it)}", False, "this is no name of an edit") for it in bad]
+    verdicts += [Verdict(f"{crate.name}/{it}.edit", False, "refused-by.md names it, and it isn't there") for it in strays(good)]
     inside = [it for it in edits if it.functions]
     whole = [it for it in edits if not it.functions]
     laws = laws_of(crate, whole)
