@@ -444,11 +444,15 @@ def in_round(room, edits, is_last, twins=(), laws=None):
     return [verdict for _, verdict in found if verdict], [edit for edit, verdict in found if not verdict]
 
 
+def named_beside(path):
+    """The functions that must be refused for edits of definitions, by these edits' names, as it is told beside an edit's file."""
+    told = Path(path).with_name("refused-by.md")
+    return dict(NAMED.findall(told.read_text(encoding="utf-8"))) if told.exists() else {}
+
+
 def named_for(edit):
     """The function that must be refused for an edit of a definition, or None where none is named."""
-    place = Path(edit.path)
-    told = place.with_name("refused-by.md")
-    return dict(NAMED.findall(told.read_text(encoding="utf-8"))).get(place.stem) if told.exists() else None
+    return named_beside(edit.path).get(Path(edit.path).stem)
 
 
 def laws_of(crate, edits):
@@ -527,9 +531,7 @@ def in_rounds(crate, edits, laws):
 
 def strays(paths):
     """The names in must-fail/refused-by.md that are of none of these edits."""
-    told = Path(paths[0]).with_name("refused-by.md") if paths else None
-    named = NAMED.findall(told.read_text(encoding="utf-8")) if told and told.exists() else []
-    return [name for name, _ in named if name not in [Path(it).stem for it in paths]]
+    return [it for it in (named_beside(paths[0]) if paths else {}) if it not in [Path(path).stem for path in paths]]
 
 
 def tried(crate, paths):
