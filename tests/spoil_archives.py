@@ -251,7 +251,7 @@ def not_copied(archives, whole, rows):
     size = path.stat().st_size - 65536
     told, status, why = archives.run_with_files_up_to(size, "day", "--archive", path, text=DAY.replace(b",DEMO,", b",LAST,"))
     archives.note(f"a log that can't be copied into a file of {size} bytes: {status}, {why}",
-                  status == 2 and told == rows and b"can't copy the archive's log" in why)
+                  status == 2 and told == rows and b"can't copy the log into its file" in why)
     got = archives.run("audit", path)
     archives.note(f"audit of file and log: {got}", got == (b"audited,1804,,,,,,\n", 0))
 

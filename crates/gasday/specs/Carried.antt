@@ -1,14 +1,22 @@
--- What an order is answered, the office among them, and what is written of it.
-use Rattle.std.specs.Prelude.{◌≡◌, ⊤, ℕ, Bool, true, false, List, Option, None, Result}
+-- What an order is answered, the office among them, what is written of it, and what the run of an order comes to.
+use Rattle.std.specs.Prelude.{◌≡◌, ◌⊎◌, ⊤, ℕ, Bool, true, false, List, Option, None, Result}
+use Rattle.sqlite_disk.specs.declared.Disk as disk
 use Rattle.sqlite_trees.specs.declared.store.Store.{Ghosts}
+use Rattle.sqlite_store.specs.declared.store.FileStore.{FileStore}
+use Rattle.sqlite.specs.Files.{over_files}
 use Rattle.sqlite.specs.Held.{Held}
 use Rattle.sqlite.specs.declared.error.Error.{Error}
-use Rattle.gasday_words.specs.Ordered.{Ordered, Audit, AuditEach, Office}
+use Rattle.gasday_words.specs.Ordered.{Ordered, Audit, AuditEach, BookText, Carry, CheckAnswer, LiveDay, Office, Question}
 use Rattle.gasday_part.specs.Answers.{Told}
 use Rattle.gasday_part.specs.Output.{WritesTold}
 use Rattle.gasday_archive.specs.Orders.{Answers, IsAnswered}
 use Rattle.gasday_archive.specs.Runs.{OrNoMemory, TellsOpened}
 use Rattle.gasday_orders.specs.Audited.{TellsAudit}
+use Rattle.gasday_orders.specs.Closing.{Exits}
+use Rattle.gasday_orders.specs.Files.{PrintsFile}
+use Rattle.gasday_orders.specs.Orders.{Asks, Checks, Refuses, Serves}
+use Rattle.gasday_orders.specs.Texts.{IsTextOf}
+use Rattle.gasday_orders.specs.declared.input.Text.{Text as Joined}
 use Rattle.gasday_office.specs.Offices.{AnswersOfficeBytes}
 
 -- an office's answer to the bytes of a text, a strict one's or any; no archive comes back
@@ -33,3 +41,26 @@ AnswersOrder g gives order text left a = Answers g gives order text left a
 -- What is written of an order over these bytes, and the exit status: what it is answered, and nothing else.
 abbrev pub CarriesOut : {S : Type 0} → Ghosts S → (Result (Held S) Error → Type 0) → Ordered → List ℕ → Option (Held S) → Option (List ℕ) → Option (List ℕ) → ℕ → Type 0
 CarriesOut g gives order text left old new status = WritesTold (AnswersOrder g gives order text left) old new status
+
+module _ {S : Type 0} (g : Ghosts S) (gives : Result (Held S) Error → Type 0) (input : Option (List ℕ)) (count : ℕ) where
+  -- what is written of an order over the bytes of its text: of the input, or of so many files that it names
+  abbrev pub CarriesText : Ordered → Option (Held S) → Option (List ℕ) → Option (List ℕ) → ℕ → Type 0
+  CarriesText order left old new status =
+      (text : Joined) × IsTextOf input order count text × CarriesOut g gives order text.bytes.items left old new status
+
+  -- What comes of an order on the file that the opener gives: of one that serves, prints, asks or checks what that is, and of each
+  -- other order what is written over its text; or that can't be read.
+  abbrev pub CarriesRequest : Ordered → Option (Held S) → Option (List ℕ) → Option (List ℕ) → ℕ → Type 0
+  CarriesRequest CheckAnswer left old new status = Checks count left old new status
+  CarriesRequest (LiveDay file) left old new status = Serves g gives input count left old new status
+  CarriesRequest (BookText file) left old new status = PrintsFile g gives left old new status
+  CarriesRequest (Question file cycle round) left old new status = Asks g gives (Question file cycle round) left old new status
+  CarriesRequest (Carry file) left old new status = Asks g gives (Carry file) left old new status
+  CarriesRequest order left old new status = CarriesText order left old new status ⊎ Refuses left old new status
+
+module _ {D : Type 0} (g : disk.Ghosts D) (gives : Result (Held (FileStore D g)) Error → Type 0) (input : Option (List ℕ)) (count : ℕ) where
+  -- An order on the file of a disk that the opener gives: what comes of it, and how that file is closed, by which it exits.
+  abbrev pub RunsOn : Ordered → Option (List ℕ) → Option (List ℕ) → ℕ → Type 0
+  RunsOn order old new exit =
+      (left : Option (Held (FileStore D g))) × (status : ℕ)
+      × CarriesRequest over_files gives input count order left old new status × Exits g order left status exit

@@ -2,9 +2,11 @@
 //! beside them what people are told on standard error.
 #![tactic(auto)]
 
+ghost use Rattle.std.specs.Prelude.{length};
 ghost use Rattle.gasday_words.specs.Ordered.{seen};
 ghost use Rattle.gasday_archive.specs.Runs.{OrNoMemory, Tells};
-ghost use Rattle.gasday.specs.Carried.{AnswersOrder, AnswersSlots, CarriesOut, IsCarriedOut};
+ghost use Rattle.gasday_orders.specs.Noting.{noted};
+ghost use Rattle.gasday.specs.Carried.{AnswersOrder, AnswersSlots, CarriesOut, CarriesRequest, IsCarriedOut, RunsOn};
 
 use gasday_archive::{Opener, Outcome, answer_to};
 use gasday_office::answer_office;
@@ -15,9 +17,10 @@ use gasday_orders::{
 use gasday_part::{Answer, last_of, summary_in, write_answer};
 use gasday_words::{Order, Request, UsageFault, request_of};
 use gd_replies::Reply;
-use sqlite::Alter;
+use sqlite::{Alter, FileStore};
+use sqlite_disk::Disk;
 use std::alloc::{AllocError, Global};
-use std::io::Write;
+use std::io::{Read, Write};
 use std::process::ExitCode;
 use std::sync::Wait;
 use std::thread::Threads;
@@ -107,45 +110,102 @@ fn run_over<T: Threads + Wait + Clock + Sync, S: Alter + Drop, W: Write, O: Open
     }
 }
 
-/// Answers a text on standard output.
-fn answer<'a, T: Threads + Wait + Clock + Sync, S: Alter + Drop, O: Opener<S>>(
+/// Answers a text.
+fn answer<'a, T: Threads + Wait + Clock + Sync, S: Alter + Drop, W: Write, O: Opener<S>>(
     threads: &T,
     rt: &HostRuntime,
     order: Order<'a>,
     text: Text<'a>,
+    writer: &mut W,
     file: O,
 ) -> Ended<'a, S>
     requires { IsCarriedOut (seen order) }
+    ensures { CarriesOut S.Store (O.Opener.opens file) (seen order.entry) text.entry.bytes.items result.ran.file
+        (W.contents writer.old) (W.contents writer.new) result.ran.status }
 {
-    let mut writer = Noted::new(io::writer(rt));
     let bytes = text.bytes.as_slice();
-    let ran = run_over(threads, rt.alloc(), order, bytes, &mut writer, file);
+    let ran = run_over(threads, rt.alloc(), order, bytes, writer, file);
     Ended {
         ran,
         text,
-        unwritten: writer.take_error(),
+        unread: None,
     }
 }
 
-/// Carries out a request. Where a file can't be read nothing is answered.
-fn carry_out<'a, T: Threads + Wait + Clock + Sync, S: Alter + Drop, O: Opener<S>>(
+/// Carries out a request whose text is answered. Where that can't be read nothing is answered.
+fn answer_request<'a, T, S, R, W, O>(
     threads: &T,
     rt: &HostRuntime,
     request: &Request<'a>,
+    input: R,
+    writer: &mut W,
     file: O,
-) -> Ended<'a, S> {
-    match request.order {
-        Order::CheckAnswer => check(threads, rt, request),
-        Order::LiveDay(_) => serve(threads, rt, request, file),
-        Order::BookText(_) => print(rt, file),
-        Order::Question { file: name, .. } | Order::Carry(name) => {
-            ask(threads, rt, request.order, name, file)
-        }
-        order => match text_of(rt, request) {
-            Ok(text) => answer(threads, rt, order, text, file),
-            Err(unread) => refuse(rt, order, &unread),
-        },
+) -> Ended<'a, S>
+where
+    T: Threads + Wait + Clock + Sync,
+    S: Alter + Drop,
+    R: Read + Drop,
+    W: Write,
+    O: Opener<S>,
+    requires { IsCarriedOut (seen request.now.order) }
+    ensures { CarriesRequest S.Store (O.Opener.opens file) (R.remaining input) (length request.now.texts.items)
+        (seen request.now.order) result.ran.file (W.contents writer.old) (W.contents writer.new) result.ran.status }
+{
+    match text_of(rt, request, input) {
+        Ok(text) => answer(threads, rt, request.order, text, writer, file),
+        Err(unread) => refuse(rt, unread, writer),
     }
+}
+
+/// Carries out a request, on the file that an opener gives where it names one.
+fn carry_out<'a, T, S, R, W, O>(
+    threads: &T,
+    rt: &HostRuntime,
+    request: &Request<'a>,
+    input: R,
+    writer: &mut W,
+    file: O,
+) -> Ended<'a, S>
+where
+    T: Threads + Wait + Clock + Sync,
+    S: Alter + Drop,
+    R: Read + Drop,
+    W: Write,
+    O: Opener<S>,
+    ensures { CarriesRequest S.Store (O.Opener.opens file) (R.remaining input) (length request.now.texts.items)
+        (seen request.now.order) result.ran.file (W.contents writer.old) (W.contents writer.new) result.ran.status }
+{
+    let order = request.order;
+    match order {
+        Order::CheckAnswer => check(threads, rt, request, writer),
+        Order::LiveDay(_) => serve(threads, rt, request, input, writer, file),
+        Order::BookText(_) => print(rt, writer, file),
+        Order::Question { file: name, .. } => ask(threads, rt, order, name, writer, file),
+        Order::Carry(name) => ask(threads, rt, order, name, writer, file),
+        _ => answer_request(threads, rt, request, input, writer, file),
+    }
+}
+
+/// Carries out a request on the file that an opener gives, closes that, and answers the exit status.
+fn run_on<T, D, R, W, O>(
+    threads: &T,
+    rt: &HostRuntime,
+    request: &Request<'_>,
+    input: R,
+    writer: &mut Noted<W>,
+    file: O,
+) -> u8
+where
+    T: Threads + Wait + Clock + Sync,
+    D: Disk + Drop,
+    R: Read + Drop,
+    W: Write,
+    O: Opener<FileStore<D>>,
+    ensures { RunsOn D.Disk (O.Opener.opens file) (R.remaining input) (length request.now.texts.items)
+        (seen request.now.order) (noted W.contents writer.old) (noted W.contents writer.new) result }
+{
+    let ended = carry_out(threads, rt, request, input, writer, file);
+    end(rt, request.order, ended, writer.error())
 }
 
 /// Carries out a request on the file that it names, or on a copy of that where it is only read and may not be written, and answers
@@ -156,13 +216,14 @@ fn run<T: Threads + Wait + Clock + Sync>(
     request: &Request<'_>,
 ) -> u8 {
     let order = request.order;
+    let (input, mut writer) = (rt.reader(), Noted::new(io::writer(rt)));
     if let Some(name) = unwritable(rt, order) {
-        let ended = carry_out(threads, rt, request, CopiedFile { rt, name });
-        return end(rt, order, ended);
+        let copy = CopiedFile { rt, name };
+        return run_on(threads, rt, request, input, &mut writer, copy);
     }
     let wait = request.wait;
-    let ended = carry_out(threads, rt, request, NamedFile { rt, order, wait });
-    end(rt, order, ended)
+    let file = NamedFile { rt, order, wait };
+    run_on(threads, rt, request, input, &mut writer, file)
 }
 
 /// Tells help or the version on standard output, and a usage fault on standard error. Answers the exit status.

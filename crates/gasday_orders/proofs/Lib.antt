@@ -1,3 +1,5 @@
+mod AskedTexts
 mod Auditing
+mod ClosedFiles
 mod Files
 mod Writing

@@ -2,3 +2,6 @@ pub mod Audited
 pub mod Checked
 pub mod Closing
 pub mod Files
+pub mod Noting
+pub mod Orders
+pub mod Texts

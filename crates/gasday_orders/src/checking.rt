@@ -1,24 +1,24 @@
 //! The check of an answer to a question.
 
-ghost use Rattle.std.specs.Prelude.{◌++◌, ◌≡◌};
+ghost use Rattle.std.specs.Prelude.{◌≡◌, None, length, take, drop};
 ghost use Rattle.gasday_part.specs.Output.{WritesTold};
 ghost use Rattle.gasday_orders.specs.Checked.{TellsAnswer};
+ghost use Rattle.gasday_orders.specs.Orders.{Checks, ChecksText, first_length};
 
 use crate::input::Text;
-use crate::noted::Noted;
 use crate::ran::{Ended, Ran};
 use crate::refusing::refuse;
 use gasday_part::{Written, check_answer, write_rows};
 use gasday_words::Request;
 use sqlite::Alter;
 use std::alloc::Global;
-use std::io;
 use std::io::Write;
 use std::thread::Threads;
 
 /// The bytes of a text's first file, and those behind it.
 fn first_and_rest<'t>(text: &'t Text<'_>) -> (&'t [u8], &'t [u8])
-    ensures { result.0.now ++ result.1.now ≡ text.now.bytes.items }
+    ensures first { result.0.now ≡ take (first_length text.now) text.now.bytes.items }
+    ensures rest { result.1.now ≡ drop (first_length text.now) text.now.bytes.items }
 {
     let bytes = text.bytes.as_slice();
     let end = match text.parts.get(1) {
@@ -51,30 +51,37 @@ fn check_over<T: Threads + Sync, S: Alter + Drop, W: Write>(
 }
 
 /// Writes what is told of an answer: of a text whose first file is the question's, and whose second one is the answer's.
-fn check_files<'a, T: Threads + Sync, S: Alter + Drop>(
+fn check_files<'a, T: Threads + Sync, S: Alter + Drop, W: Write>(
     threads: &T,
     rt: &HostRuntime,
     text: Text<'a>,
-) -> Ended<'a, S> {
-    let mut writer = Noted::new(io::writer(rt));
+    writer: &mut W,
+) -> Ended<'a, S>
+    ensures { ChecksText text.entry result.ran.file
+        (W.contents writer.old) (W.contents writer.new) result.ran.status }
+{
     let (question, answer) = first_and_rest(&text);
-    let ran = check_over(threads, rt.alloc(), question, answer, &mut writer);
+    let ran = check_over(threads, rt.alloc(), question, answer, writer);
     Ended {
         ran,
         text,
-        unwritten: writer.take_error(),
+        unread: None,
     }
 }
 
 /// Writes what is told of an answer, by the files that a request names: the question's and the answer's, as `check_answer` does. A file
 /// that can't be read is told to people alone, with status 2.
-pub fn check<'a, T: Threads + Sync, S: Alter + Drop>(
+pub fn check<'a, T: Threads + Sync, S: Alter + Drop, W: Write>(
     threads: &T,
     rt: &HostRuntime,
     request: &Request<'a>,
-) -> Ended<'a, S> {
+    writer: &mut W,
+) -> Ended<'a, S>
+    ensures { Checks (length request.now.texts.items) result.ran.file
+        (W.contents writer.old) (W.contents writer.new) result.ran.status }
+{
     match Text::of_files(rt, request.texts.as_slice()) {
-        Ok(text) => check_files(threads, rt, text),
-        Err(unread) => refuse(rt, request.order, &unread),
+        Ok(text) => check_files(threads, rt, text, writer),
+        Err(unread) => refuse(rt, unread, writer),
     }
 }

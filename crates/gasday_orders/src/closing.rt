@@ -6,11 +6,12 @@ ghost use Rattle.gasday_orders.specs.Closing.{Exits, status_closed};
 
 use crate::file::close;
 use crate::ran::{Ended, Ran};
-use crate::told::{Course, tell_course, tell_unclosed, tell_unwritten, tell_why};
+use crate::told::{Course, tell_course, tell_unclosed, tell_unread, tell_unwritten, tell_why};
 use gasday_words::Order;
 use gd_replies::Reply;
 use sqlite::{Error, FileStore};
 use sqlite_disk::Disk;
+use std::io;
 
 /// The exit status of an order whose file is closed so: 2 where what it kept or migrated is not in the file, which people are told.
 fn closed(rt: &HostRuntime, order: Order<'_>, closed: Result<(), Error>, status: u8) -> u8
@@ -40,15 +41,16 @@ fn is_repeated(order: Order<'_>, course: &Option<Course>) -> bool {
 }
 
 /// Closes the file of an order that has ended, tells people what a gas day came to, or why the order didn't end well, and answers the
-/// exit status.
-pub fn end<D: Disk + Drop>(rt: &HostRuntime, order: Order<'_>, ended: Ended<'_, FileStore<D>>) -> u8
-    ensures { Exits (seen order.entry) ended.entry.ran.status result }
+/// exit status. Why its answer could not be written is given, if it is so.
+pub fn end<D: Disk + Drop>(
+    rt: &HostRuntime,
+    order: Order<'_>,
+    ended: Ended<'_, FileStore<D>>,
+    unwritten: Option<&io::Error>,
+) -> u8
+    ensures { Exits D.Disk (seen order.entry) ended.entry.ran.file ended.entry.ran.status result }
 {
-    let Ended {
-        ran,
-        text,
-        unwritten,
-    } = ended;
+    let Ended { ran, text, unread } = ended;
     let Ran {
         status,
         last,
@@ -57,18 +59,19 @@ pub fn end<D: Disk + Drop>(rt: &HostRuntime, order: Order<'_>, ended: Ended<'_, 
     } = ran;
     let is_unopened = file.is_none();
     let status = closed(rt, order, close(file), status);
-    match (&unwritten, &course) {
+    match (unwritten, &course) {
         (None, Some(course)) => tell_course(rt, course),
         _ => {}
     }
-    match (&unwritten, last) {
-        (Some(error), _) => tell_unwritten(rt, error),
+    match (unwritten, &unread, last) {
+        (Some(error), ..) => tell_unwritten(rt, error),
+        (None, Some(unread), _) => tell_unread(rt, order, unread),
         // (Whoever couldn't open the file has told why.)
-        (None, Some(Reply::Store | Reply::Busy)) if is_unopened => {}
+        (None, None, Some(Reply::Store | Reply::Busy)) if is_unopened => {}
         // (What the course came to is told.)
-        (None, Some(Reply::Reconciled { .. })) => {}
-        (None, Some(Reply::Kept)) if is_repeated(order, &course) => {}
-        (None, Some(last)) if status != 0 => tell_why(rt, order, &text, &last),
+        (None, None, Some(Reply::Reconciled { .. })) => {}
+        (None, None, Some(Reply::Kept)) if is_repeated(order, &course) => {}
+        (None, None, Some(last)) if status != 0 => tell_why(rt, order, &text, &last),
         _ => {}
     }
     status

@@ -1,7 +1,9 @@
 //! A copy in memory of a file that an order only reads, and that may not be written: one on a read-only medium, say.
 
-ghost use Rattle.std.specs.Prelude.{IfOk, IsTrue};
+ghost use Rattle.std.specs.Prelude.{IfOk, IfSome, IsTrue};
 ghost use Rattle.sqlite_disk.specs.Memory.{memory_is_usable};
+ghost use Rattle.gasday_words.specs.Ordered.{seen};
+ghost use Rattle.gasday_orders.specs.Orders.{OnlyReads};
 
 use crate::file::is_database;
 use crate::told::tell_cause;
@@ -28,16 +30,25 @@ fn may_not_be_written(rt: &HostRuntime, name: &str) -> bool {
     }
 }
 
+/// The file that an order only reads, if it only reads one.
+fn only_read(order: Order<'_>) -> Option<&str>
+    ensures { IfSome result (λ name. OnlyReads (seen order.entry) name.now) }
+{
+    match order {
+        Order::Audit(file)
+        | Order::AuditEach(file)
+        | Order::BookText(file)
+        | Order::Question { file, .. }
+        | Order::Carry(file) => Some(file),
+        _ => None,
+    }
+}
+
 /// The database that an order only reads, where it may not be written.
-pub fn unwritable<'a>(rt: &HostRuntime, order: Order<'a>) -> Option<&'a str> {
-    let (Order::Audit(file)
-    | Order::AuditEach(file)
-    | Order::BookText(file)
-    | Order::Question { file, .. }
-    | Order::Carry(file)) = order
-    else {
-        return None;
-    };
+pub fn unwritable<'a>(rt: &HostRuntime, order: Order<'a>) -> Option<&'a str>
+    ensures { IfSome result (λ name. OnlyReads (seen order.entry) name.now) }
+{
+    let file = only_read(order)?;
     match is_database(rt, file) {
         Ok(true) if may_not_be_written(rt, file) => Some(file),
         _ => None,

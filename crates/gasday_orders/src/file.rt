@@ -1,5 +1,10 @@
 //! The file that an order names: an archive's, or a book's.
 
+ghost use Rattle.std.specs.Prelude.{◌≡◌, IfSome};
+ghost use Rattle.gasday_words.specs.Ordered.{seen};
+ghost use Rattle.gasday_orders.specs.Closing.{Closes};
+ghost use Rattle.gasday_orders.specs.Orders.{IsOn};
+
 use crate::told::{tell_cause, tell_unopened};
 use gasday_archive::Opener;
 use gasday_words::Order;
@@ -28,7 +33,9 @@ const PAUSE: u64 = 100;
 
 impl<'a> NamedFile<'a> {
     /// The name of a file that is there and has something, or people are told what is wrong with it.
-    fn present(&self, file: &'a str) -> Option<&'a str> {
+    fn present(&self, file: &'a str) -> Option<&'a str>
+        ensures { IfSome result (λ name. name.now ≡ file.now) }
+    {
         match metadata(self.rt, file) {
             Ok(found) if found.is_dir() => tell_unopened(self.rt, file, "it is a folder"),
             Ok(found) if found.len() == 0 => tell_unopened(self.rt, file, "it is empty"),
@@ -39,7 +46,9 @@ impl<'a> NamedFile<'a> {
     }
 
     /// The name of the file. A gas day makes it where there is none; who audits, migrates, prints or asks one names one that is there.
-    fn name(&self) -> Option<&'a str> {
+    fn name(&self) -> Option<&'a str>
+        ensures { IfSome result (λ name. IsOn (seen self.now.order) name.now) }
+    {
         match self.order {
             Order::Text(_)
             | Order::CheckAnswer
@@ -125,9 +134,20 @@ pub(crate) fn is_database(rt: &HostRuntime, name: &str) -> io::Result<bool> {
 }
 
 /// Closes a file that was opened, and copies its log into it. Where that fails both stay, and what was kept stands in the log.
-pub(crate) fn close<D: Disk + Drop>(file: Option<Connection<FileStore<D>>>) -> Result<(), Error> {
-    match file {
-        Some(file) => file.close(),
-        None => Ok(()),
+pub(crate) fn close<D: Disk + Drop>(file: Option<Connection<FileStore<D>>>) -> Result<(), Error>
+    ensures { Closes D.Disk file result }
+{
+    let Some(file) = file else {
+        return Ok(());
+    };
+    match file.close_files() {
+        Ok(files) => {
+            drop(files);
+            Ok(())
+        }
+        Err((error, store)) => {
+            drop(store.close());
+            Err(error)
+        }
     }
 }

@@ -1,11 +1,16 @@
 //! Where a text comes from: standard input, or files that were named.
 
+ghost use Rattle.std.specs.Prelude.{◌≡◌, ℕ, List, [], length, IfOk, IfSome};
+ghost use Rattle.gasday_words.specs.Ordered.{seen};
+ghost use Rattle.gasday_orders.specs.Texts.{Adds, IsMadeOf, IsTextOf, joined};
+
 use crate::file::is_database;
 use crate::noted::Noted;
 use crate::told::tell_waiting;
 use gasday_words::{Order, Request};
 use gd_messages::Part;
 use gd_text_part::{MAX_BYTES, TextFault, read_bytes};
+use std::alloc::AllocError;
 use std::fs::File;
 use std::io;
 use std::io::Read;
@@ -53,20 +58,32 @@ fn read_named(rt: &HostRuntime, name: &str, bytes: &[u8]) -> io::Result<Vec<u8>>
     Ok(file)
 }
 
-/// Puts what a file has behind the bytes, and a line break behind that if it has none.
-fn append(rt: &HostRuntime, name: &str, bytes: &mut Vec<u8>) -> io::Result<()> {
-    let file = read_named(rt, name, bytes.as_slice())?;
-    let text = file.as_slice();
-    bytes.extend_from_slice(text.strip_prefix(BYTE_ORDER_MARK).unwrap_or(text))?;
+/// Puts the bytes of a file behind these, without a byte order mark, and a line break behind them if they end with none.
+fn join(bytes: &mut Vec<u8>, file: &[u8]) -> Result<(), AllocError>
+    ensures { IfOk result (λ done. bytes.new.items ≡ joined bytes.old.items file.now) }
+{
+    bytes.extend_from_slice(file.strip_prefix(BYTE_ORDER_MARK).unwrap_or(file))?;
     if !bytes.as_slice().ends_with(b"\n") {
         bytes.push(b'\n')?;
     }
     Ok(())
 }
 
+/// Puts what a file has behind the bytes.
+fn append(rt: &HostRuntime, name: &str, bytes: &mut Vec<u8>) -> io::Result<()>
+    ensures { IfOk result (λ done. (file : List ℕ) × (bytes.new.items ≡ joined bytes.old.items file)) }
+{
+    let file = read_named(rt, name, bytes.as_slice())?;
+    join(bytes, file.as_slice())?;
+    Ok(())
+}
+
 impl<'a> Text<'a> {
     /// A text of nothing.
-    pub(crate) fn empty(rt: &HostRuntime) -> Text<'a> {
+    pub(crate) fn empty(rt: &HostRuntime) -> Text<'a>
+        ensures bytes { result.bytes.items ≡ [] }
+        ensures parts { result.parts.items ≡ [] }
+    {
         Text {
             bytes: Vec::new(rt.alloc()),
             parts: Vec::new(rt.alloc()),
@@ -74,16 +91,20 @@ impl<'a> Text<'a> {
     }
 
     /// Puts a file behind the others.
-    fn add(&mut self, rt: &HostRuntime, name: &'a str) -> io::Result<()> {
+    fn add(&mut self, rt: &HostRuntime, name: &'a str) -> io::Result<()>
+        ensures { IfOk result (λ done. Adds self.old self.new) }
+    {
         let begin = self.bytes.len();
         self.parts.push(Part { name, begin })?;
         append(rt, name, &mut self.bytes)
     }
 
     /// What these files have, in order.
-    pub(crate) fn of_files(rt: &HostRuntime, names: &[&'a str]) -> Result<Text<'a>, Unread<'a>> {
+    pub(crate) fn of_files(rt: &HostRuntime, names: &[&'a str]) -> Result<Text<'a>, Unread<'a>>
+        ensures { IfOk result (λ text. IsMadeOf (length names.now) text) }
+    {
         let mut text = Text::empty(rt);
-        for name in names {
+        'names: for name in names {
             if let Err(error) = text.add(rt, *name) {
                 return Err(Unread::File(*name, error));
             }
@@ -92,8 +113,13 @@ impl<'a> Text<'a> {
     }
 
     /// All that standard input has.
-    pub(crate) fn of_input(rt: &HostRuntime) -> Result<Text<'a>, Unread<'a>> {
-        let mut reader = Noted::new(rt.reader());
+    pub(crate) fn of_input<R: Read + Drop>(
+        rt: &HostRuntime,
+        input: R,
+    ) -> Result<Text<'a>, Unread<'a>>
+        ensures { IfOk result (λ text. IfSome (R.remaining input) (λ all. text.bytes.items ≡ all)) }
+    {
+        let mut reader = Noted::new(input);
         match read_bytes(rt.alloc(), &mut reader) {
             Ok(bytes) => Ok(Text {
                 bytes,
@@ -105,10 +131,9 @@ impl<'a> Text<'a> {
 }
 
 /// The text of a file, or of standard input; `None` of a database.
-pub(crate) fn named_by<'a>(
-    rt: &HostRuntime,
-    file: &'a str,
-) -> Result<Option<Text<'a>>, Unread<'a>> {
+pub(crate) fn named_by<'a>(rt: &HostRuntime, file: &'a str) -> Result<Option<Text<'a>>, Unread<'a>>
+    ensures { IfOk result (λ found. IfSome found (λ text. IsMadeOf 1 text)) }
+{
     if file != STANDARD_INPUT {
         match is_database(rt, file) {
             Ok(true) => return Ok(None),
@@ -119,18 +144,25 @@ pub(crate) fn named_by<'a>(
     Ok(Some(Text::of_files(rt, &[file])?))
 }
 
-/// The text of a request. Who audits or migrates an archive reads none.
+/// The text of a request, of standard input where it names no file. Who audits or migrates an archive reads none.
 ///
 /// # Errors
 ///
 /// `File` with the first file that can't be read; `Standard` where standard input gives no text: it is too long, memory ended, or a
 /// read failed.
-pub fn text_of<'a>(rt: &HostRuntime, request: &Request<'a>) -> Result<Text<'a>, Unread<'a>> {
+pub fn text_of<'a, R: Read + Drop>(
+    rt: &HostRuntime,
+    request: &Request<'a>,
+    input: R,
+) -> Result<Text<'a>, Unread<'a>>
+    ensures { IfOk result (λ text. IsTextOf (R.remaining input) (seen request.now.order)
+        (length request.now.texts.items) text) }
+{
     match request.order {
         Order::Audit(_) | Order::AuditEach(_) | Order::Migrate(_) => Ok(Text::empty(rt)),
         _ if request.texts.is_empty() => {
             tell_waiting(rt);
-            Text::of_input(rt)
+            Text::of_input(rt, input)
         }
         _ => Text::of_files(rt, request.texts.as_slice()),
     }

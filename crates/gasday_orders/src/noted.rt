@@ -1,5 +1,8 @@
 //! A reader or a writer of which it is known why it failed.
 
+ghost use Rattle.std.specs.Prelude.{◌≡◌};
+ghost use Rattle.gasday_orders.specs.Noting.{noted, stream_of};
+
 use std::io;
 use std::io::{Read, Write};
 
@@ -12,15 +15,22 @@ pub struct Noted<T> {
 
 impl<T> Noted<T> {
     /// Of which no call has failed yet.
-    pub fn new(stream: T) -> Noted<T> {
+    pub fn new(stream: T) -> Noted<T>
+        ensures { stream_of result ≡ stream }
+    {
         Noted {
             stream,
             error: None,
         }
     }
 
+    /// The error of the last call that failed.
+    pub fn error(&self) -> Option<&io::Error> {
+        self.error.as_ref()
+    }
+
     /// The error of the last call that failed, which is known here no longer.
-    pub fn take_error(&mut self) -> Option<io::Error> {
+    pub(crate) fn take_error(&mut self) -> Option<io::Error> {
         self.error.take()
     }
 }
@@ -40,7 +50,7 @@ impl<R: Read> Read for Noted<R> {
 }
 
 impl<W: Write> Write for Noted<W> {
-    ghost contents = { λ n. W.contents n.stream };
+    ghost contents = { noted W.contents };
 
     fn write(&mut self, buf: &[u8]) -> io::Result<usize> {
         match self.stream.write(buf) {

@@ -1,10 +1,9 @@
 //! How orders come out.
 
-use crate::input::Text;
+use crate::input::{Text, Unread};
 use crate::told::Course;
 use gd_replies::Reply;
 use sqlite::{Alter, Connection};
-use std::io;
 
 /// How an order was carried out: its exit status, the row with which that is told where it isn't 0, if it is known, and the file
 /// that it opened, as it is left, to be closed.
@@ -17,10 +16,10 @@ pub struct Ran<S: Alter + Drop> {
     pub course: Option<Course>,
 }
 
-/// An order that has ended: how, with the text that it was about, and why not all could be written, if it is so.
+/// An order that has ended: how, with the text that it was about, and why no text could be read, if it is so.
 #[derive(Drop)]
 pub struct Ended<'a, S: Alter + Drop> {
     pub ran: Ran<S>,
     pub text: Text<'a>,
-    pub unwritten: Option<io::Error>,
+    pub unread: Option<Unread<'a>>,
 }

@@ -1,19 +1,16 @@
 //! Orders whose text can't be read.
 
-ghost use Rattle.std.specs.Prelude.{◌≡◌, ◌⊎◌};
+ghost use Rattle.std.specs.Prelude.{◌≡◌, ◌⊎◌, None};
 ghost use Rattle.gasday_part.specs.Answers.{fault_answer, no_memory, one};
 ghost use Rattle.gasday_part.specs.Output.{WritesTold};
+ghost use Rattle.gasday_orders.specs.Orders.{RefusesFor, WritesUnread};
 
 use crate::input::{Text, Unread};
-use crate::noted::Noted;
 use crate::ran::{Ended, Ran};
-use crate::told::tell_unread;
 use gasday_part::{of_fault, write_answer};
-use gasday_words::Order;
 use gd_text_part::TextFault;
 use sqlite::Alter;
 use std::alloc::Global;
-use std::io;
 use std::io::Write;
 
 /// Writes that a text could not be read, and answers the exit status.
@@ -24,8 +21,26 @@ fn write_fault<W: Write>(alloc: Global, fault: TextFault, writer: &mut W) -> u8
     write_answer(alloc, writer, &of_fault(alloc, fault))
 }
 
-/// An order that ended with status 2 before anything was opened.
-pub(crate) fn failed<'a, S: Alter + Drop>(rt: &HostRuntime) -> Ended<'a, S> {
+/// Writes the fault's row where standard input gave no text, and nothing of a file that can't be read.
+fn write_unread<W: Write>(alloc: Global, unread: &Unread<'_>, writer: &mut W)
+    ensures { WritesUnread unread.now (W.contents writer.old) (W.contents writer.new) }
+{
+    match unread {
+        Unread::File(..) => {}
+        Unread::Standard(fault, _) => {
+            let _ = write_fault(alloc, *fault, writer);
+        }
+    }
+}
+
+/// An order that ended with status 2 before anything was opened, and why no text could be read, if it was for that.
+pub(crate) fn failed<'a, S: Alter + Drop>(
+    rt: &HostRuntime,
+    unread: Option<Unread<'a>>,
+) -> Ended<'a, S>
+    ensures file { result.ran.file ≡ None }
+    ensures status { result.ran.status ≡ 2 }
+{
     let ran = Ran {
         status: 2,
         last: None,
@@ -35,24 +50,19 @@ pub(crate) fn failed<'a, S: Alter + Drop>(rt: &HostRuntime) -> Ended<'a, S> {
     Ended {
         ran,
         text: Text::empty(rt),
-        unwritten: None,
+        unread,
     }
 }
 
-/// Tells people why a text was not read, and of standard input writes the fault's row, too. The status is 2.
-pub fn refuse<'a, S: Alter + Drop>(
+/// What comes of an order whose text was not read: of standard input the fault's row is written, and the status is 2.
+pub fn refuse<'a, S: Alter + Drop, W: Write>(
     rt: &HostRuntime,
-    order: Order<'_>,
-    unread: &Unread<'_>,
-) -> Ended<'a, S> {
-    let mut ended = failed(rt);
-    if let Unread::Standard(fault, _) = unread {
-        let mut writer = Noted::new(io::writer(rt));
-        let _ = write_fault(rt.alloc(), *fault, &mut writer);
-        ended.unwritten = writer.take_error();
-    }
-    if ended.unwritten.is_none() {
-        tell_unread(rt, order, unread);
-    }
-    ended
+    unread: Unread<'a>,
+    writer: &mut W,
+) -> Ended<'a, S>
+    ensures { RefusesFor unread.entry result.ran.file
+        (W.contents writer.old) (W.contents writer.new) result.ran.status }
+{
+    write_unread(rt.alloc(), &unread, writer);
+    failed(rt, Some(unread))
 }

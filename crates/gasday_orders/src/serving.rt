@@ -1,8 +1,11 @@
 //! Lines that are served on the book of a file as they come, and told to people.
 
+ghost use Rattle.std.specs.Prelude.{length};
+ghost use Rattle.gasday_orders.specs.Files.{ServesFile};
+ghost use Rattle.gasday_orders.specs.Orders.{Serves};
+
 use crate::book::serve_over;
 use crate::input::Text;
-use crate::noted::Noted;
 use crate::ran::{Ended, Ran};
 use crate::refusing::refuse;
 use crate::told::{ClockWitness, tell_waiting};
@@ -11,22 +14,8 @@ use gasday_words::Request;
 use gd_replies::Reply;
 use gd_text_part::TextFault;
 use sqlite::Alter;
-use std::io;
-use std::io::Read;
+use std::io::{Read, Write};
 use std::thread::Threads;
-
-/// Serves the lines of a reader on the book of an order's file.
-fn serve_lines<T: Threads + Sync, S: Alter + Drop, O: Opener<S>, R: Read + Drop>(
-    threads: &T,
-    rt: &HostRuntime,
-    reader: R,
-    file: O,
-) -> (Ran<S>, Option<io::Error>) {
-    let mut writer = Noted::new(io::writer(rt));
-    let clock = ClockWitness::new(rt);
-    let ran = serve_over(threads, rt.alloc(), reader, &mut writer, clock, file);
-    (ran, writer.take_error())
-}
 
 /// The row with which lines as they came ended, where something can be told of it without their text, of which nothing is left.
 fn without_text(last: Option<Reply>) -> Option<Reply> {
@@ -37,19 +26,30 @@ fn without_text(last: Option<Reply>) -> Option<Reply> {
 }
 
 /// Serves the lines of standard input as they come.
-fn serve_input<'a, T: Threads + Sync, S: Alter + Drop, O: Opener<S>>(
+fn serve_input<'a, T, S, R, W, O>(
     threads: &T,
     rt: &HostRuntime,
+    input: R,
+    writer: &mut W,
     file: O,
-) -> Ended<'a, S> {
+) -> Ended<'a, S>
+where
+    T: Threads + Sync,
+    S: Alter + Drop,
+    R: Read + Drop,
+    W: Write,
+    O: Opener<S>,
+    ensures { ServesFile S.Store (O.Opener.opens file) (R.remaining input) result.ran.file
+        (W.contents writer.old) (W.contents writer.new) result.ran.status }
+{
     tell_waiting(rt);
-    let (ran, unwritten) = serve_lines(threads, rt, rt.reader(), file);
+    let clock = ClockWitness::new(rt);
     let Ran {
         status,
         last,
         file,
         course,
-    } = ran;
+    } = serve_over(threads, rt.alloc(), input, writer, clock, file);
     Ended {
         ran: Ran {
             status,
@@ -58,30 +58,42 @@ fn serve_input<'a, T: Threads + Sync, S: Alter + Drop, O: Opener<S>>(
             course,
         },
         text: Text::empty(rt),
-        unwritten,
+        unread: None,
     }
 }
 
 /// Serves the lines of the files that a request names, or of standard input as they come, on the book of the file that the opener
 /// gives, as `serve_book` does. Where a file of lines can't be read, none is served: that is told to people alone, with status 2.
-pub fn serve<'a, T: Threads + Sync, S: Alter + Drop, O: Opener<S>>(
+pub fn serve<'a, T, S, R, W, O>(
     threads: &T,
     rt: &HostRuntime,
     request: &Request<'a>,
+    input: R,
+    writer: &mut W,
     file: O,
-) -> Ended<'a, S> {
+) -> Ended<'a, S>
+where
+    T: Threads + Sync,
+    S: Alter + Drop,
+    R: Read + Drop,
+    W: Write,
+    O: Opener<S>,
+    ensures { Serves S.Store (O.Opener.opens file) (R.remaining input) (length request.now.texts.items)
+        result.ran.file (W.contents writer.old) (W.contents writer.new) result.ran.status }
+{
     if request.texts.is_empty() {
-        return serve_input(threads, rt, file);
+        return serve_input(threads, rt, input, writer, file);
     }
     match Text::of_files(rt, request.texts.as_slice()) {
         Ok(text) => {
-            let (ran, unwritten) = serve_lines(threads, rt, text.bytes.as_slice(), file);
+            let (lines, clock) = (text.bytes.as_slice(), ClockWitness::new(rt));
+            let ran = serve_over(threads, rt.alloc(), lines, writer, clock, file);
             Ended {
                 ran,
                 text,
-                unwritten,
+                unread: None,
             }
         }
-        Err(unread) => refuse(rt, request.order, &unread),
+        Err(unread) => refuse(rt, unread, writer),
     }
 }

@@ -69,7 +69,7 @@ pub(crate) fn tell_unread(rt: &HostRuntime, order: Order<'_>, unread: &Unread<'_
 /// Tells that what the log of a file has is not in the file yet, and why. It is read from the log all the same.
 pub(crate) fn tell_unclosed(rt: &HostRuntime, error: &Error) {
     if let Ok(message) = format!(in rt.alloc();
-        "can't copy the archive's log into its file: {error}; keep FILE-wal beside it"
+        "can't copy the log into its file: {error}; keep FILE-wal beside it"
     ) {
         tell(rt, message.as_str());
     }
