@@ -15,7 +15,7 @@ use Rattle.gasday_orders.specs.Audited.{TellsAudit}
 use Rattle.gasday_orders.specs.Closing.{Exits}
 use Rattle.gasday_orders.specs.Files.{PrintsFile}
 use Rattle.gasday_orders.specs.Orders.{Asks, Checks, Refuses, Serves}
-use Rattle.gasday_orders.specs.Texts.{IsTextOf}
+use Rattle.gasday_orders.specs.Texts.{IsTextOf, IsUnread, ReadsText}
 use Rattle.gasday_orders.specs.declared.input.Text.{Text as Joined}
 use Rattle.gasday_office.specs.Offices.{AnswersOfficeBytes}
 
@@ -42,25 +42,25 @@ AnswersOrder g gives order text left a = Answers g gives order text left a
 abbrev pub CarriesOut : {S : Type 0} → Ghosts S → (Result (Held S) Error → Type 0) → Ordered → List ℕ → Option (Held S) → Option (List ℕ) → Option (List ℕ) → ℕ → Type 0
 CarriesOut g gives order text left old new status = WritesTold (AnswersOrder g gives order text left) old new status
 
-module _ {S : Type 0} (g : Ghosts S) (gives : Result (Held S) Error → Type 0) (input : Option (List ℕ)) (count : ℕ) where
-  -- what is written of an order over the bytes of its text: of the input, or of so many files that it names
+module _ {S : Type 0} (g : Ghosts S) (gives : Result (Held S) Error → Type 0) (input : Option (List ℕ)) (names : List (List ℕ)) where
+  -- what is written of an order over the bytes of its text: of the input, or of the files of these names
   abbrev pub CarriesText : Ordered → Option (Held S) → Option (List ℕ) → Option (List ℕ) → ℕ → Type 0
   CarriesText order left old new status =
-      (text : Joined) × IsTextOf input order count text × CarriesOut g gives order text.bytes.items left old new status
+      (text : Joined) × IsTextOf input order names text × CarriesOut g gives order text.bytes.items left old new status
 
   -- What comes of an order on the file that the opener gives: of one that serves, prints, asks or checks what that is, and of each
   -- other order what is written over its text; or that can't be read.
   abbrev pub CarriesRequest : Ordered → Option (Held S) → Option (List ℕ) → Option (List ℕ) → ℕ → Type 0
-  CarriesRequest CheckAnswer left old new status = Checks count left old new status
-  CarriesRequest (LiveDay file) left old new status = Serves g gives input count left old new status
+  CarriesRequest CheckAnswer left old new status = Checks names left old new status
+  CarriesRequest (LiveDay file) left old new status = Serves g gives input names left old new status
   CarriesRequest (BookText file) left old new status = PrintsFile g gives left old new status
-  CarriesRequest (Question file cycle round) left old new status = Asks g gives (Question file cycle round) left old new status
-  CarriesRequest (Carry file) left old new status = Asks g gives (Carry file) left old new status
-  CarriesRequest order left old new status = CarriesText order left old new status ⊎ Refuses left old new status
+  CarriesRequest (Question file cycle round) left old new status = Asks g gives (Question file cycle round) file left old new status
+  CarriesRequest (Carry file) left old new status = Asks g gives (Carry file) file left old new status
+  CarriesRequest order left old new status = CarriesText order left old new status ⊎ (ReadsText order × Refuses (IsUnread input names) left old new status)
 
-module _ {D : Type 0} (g : disk.Ghosts D) (gives : Result (Held (FileStore D g)) Error → Type 0) (input : Option (List ℕ)) (count : ℕ) where
+module _ {D : Type 0} (g : disk.Ghosts D) (gives : Result (Held (FileStore D g)) Error → Type 0) (input : Option (List ℕ)) (names : List (List ℕ)) where
   -- An order on the file of a disk that the opener gives: what comes of it, and how that file is closed, by which it exits.
   abbrev pub RunsOn : Ordered → Option (List ℕ) → Option (List ℕ) → ℕ → Type 0
   RunsOn order old new exit =
       (left : Option (Held (FileStore D g))) × (status : ℕ)
-      × CarriesRequest over_files gives input count order left old new status × Exits g order left status exit
+      × CarriesRequest over_files gives input names order left old new status × Exits g order left status exit

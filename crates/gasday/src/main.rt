@@ -2,23 +2,23 @@
 //! beside them what people are told on standard error.
 #![tactic(auto)]
 
-ghost use Rattle.std.specs.Prelude.{length};
-ghost use Rattle.gasday_words.specs.Ordered.{seen};
+ghost use Rattle.gasday_words.specs.Ordered.{requested, seen};
 ghost use Rattle.gasday_archive.specs.Runs.{OrNoMemory, Tells};
 ghost use Rattle.gasday_orders.specs.Noting.{noted};
+ghost use Rattle.gasday_orders.specs.Opening.{FindsAs, disk_of};
 ghost use Rattle.gasday.specs.Carried.{AnswersOrder, AnswersSlots, CarriesOut, CarriesRequest, IsCarriedOut, RunsOn};
 
 use gasday_archive::{Opener, Outcome, answer_to};
 use gasday_office::answer_office;
 use gasday_orders::{
-    CopiedFile, Course, Ended, NamedFile, Noted, Ran, Text, ask, check, end, print, refuse, serve,
-    tell_audit, text_of, unwritable,
+    AsFound, CopiedFile, Course, Ended, NamedFile, Noted, Ran, Text, ask, check, end, print,
+    refuse, serve, tell_audit, text_of, unwritable,
 };
 use gasday_part::{Answer, last_of, summary_in, write_answer};
 use gasday_words::{Order, Request, UsageFault, request_of};
 use gd_replies::Reply;
 use sqlite::{Alter, FileStore};
-use sqlite_disk::Disk;
+use sqlite_disk::{Disk, Start};
 use std::alloc::{AllocError, Global};
 use std::io::{Read, Write};
 use std::process::ExitCode;
@@ -148,7 +148,7 @@ where
     W: Write,
     O: Opener<S>,
     requires { IsCarriedOut (seen request.now.order) }
-    ensures { CarriesRequest S.Store (O.Opener.opens file) (R.remaining input) (length request.now.texts.items)
+    ensures { CarriesRequest S.Store (O.Opener.opens file) (R.remaining input) (requested request.now).texts
         (seen request.now.order) result.ran.file (W.contents writer.old) (W.contents writer.new) result.ran.status }
 {
     match text_of(rt, request, input) {
@@ -172,7 +172,7 @@ where
     R: Read + Drop,
     W: Write,
     O: Opener<S>,
-    ensures { CarriesRequest S.Store (O.Opener.opens file) (R.remaining input) (length request.now.texts.items)
+    ensures { CarriesRequest S.Store (O.Opener.opens file) (R.remaining input) (requested request.now).texts
         (seen request.now.order) result.ran.file (W.contents writer.old) (W.contents writer.new) result.ran.status }
 {
     let order = request.order;
@@ -201,11 +201,38 @@ where
     R: Read + Drop,
     W: Write,
     O: Opener<FileStore<D>>,
-    ensures { RunsOn D.Disk (O.Opener.opens file) (R.remaining input) (length request.now.texts.items)
+    ensures { RunsOn D.Disk (O.Opener.opens file) (R.remaining input) (requested request.now).texts
         (seen request.now.order) (noted W.contents writer.old) (noted W.contents writer.new) result }
 {
     let ended = carry_out(threads, rt, request, input, writer, file);
     end(rt, request.order, ended, writer.error())
+}
+
+/// Carries out a request on the file that it names, closes that, and answers the exit status. What that file and its log hold no code
+/// can read beforehand: `found` stands for it, and this is proved of whatever they hold.
+fn run_file<T, F, R, W>(
+    threads: &T,
+    rt: &HostRuntime,
+    request: &Request<'_>,
+    input: R,
+    writer: &mut Noted<W>,
+    found: F,
+) -> u8
+where
+    T: Threads + Wait + Clock + Sync,
+    F: Start + Copy,
+    R: Read + Drop,
+    W: Write,
+    ensures { RunsOn (disk_of F.row F.Start) (FindsAs F.Start) (R.remaining input) (requested request.now).texts
+        (seen request.now.order) (noted W.contents writer.old) (noted W.contents writer.new) result }
+{
+    let file = NamedFile {
+        rt,
+        order: request.order,
+        wait: request.wait,
+        found,
+    };
+    run_on(threads, rt, request, input, writer, file)
 }
 
 /// Carries out a request on the file that it names, or on a copy of that where it is only read and may not be written, and answers
@@ -215,15 +242,12 @@ fn run<T: Threads + Wait + Clock + Sync>(
     rt: &HostRuntime,
     request: &Request<'_>,
 ) -> u8 {
-    let order = request.order;
     let (input, mut writer) = (rt.reader(), Noted::new(io::writer(rt)));
-    if let Some(name) = unwritable(rt, order) {
+    if let Some(name) = unwritable(rt, request.order) {
         let copy = CopiedFile { rt, name };
         return run_on(threads, rt, request, input, &mut writer, copy);
     }
-    let wait = request.wait;
-    let file = NamedFile { rt, order, wait };
-    run_on(threads, rt, request, input, &mut writer, file)
+    run_file(threads, rt, request, input, &mut writer, AsFound)
 }
 
 /// Tells help or the version on standard output, and a usage fault on standard error. Answers the exit status.

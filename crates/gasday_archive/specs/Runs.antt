@@ -83,10 +83,10 @@ module _ {S : Type 0} (g : Ghosts S) (strict : Bool) where
 -- ---- an archive that the opener gives
 
 module _ {S : Type 0} (g : Ghosts S) where
-  -- What is told of what the opener gave: how its archive is used, where its store is clean at the end; or that it can't be
-  -- opened.
+  -- What is told of what the opener gave: how its archive is used, where its store is clean at the end, and so was when it was opened;
+  -- or that it can't be opened.
   abbrev pub TellsOf : (Held S → Held S → Told → Type 0) → Result (Held S) Error → Option (Held S) → Told → Type 0
-  TellsOf tells (Ok opened) (Some left) a = HasCleanDisk (state g left) → tells opened left a
+  TellsOf tells (Ok opened) (Some left) a = HasCleanDisk (state g left) → HasCleanDisk (state g opened) × tells opened left a
   TellsOf tells (Ok opened) None a = ⊥
   TellsOf tells (Err e) left a = (left ≡ None) × (a ≡ no_store)
 

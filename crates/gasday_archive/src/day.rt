@@ -102,6 +102,7 @@ pub(crate) fn tell_in_archive<S: Alter>(
     requires pass { AllPass book.old.day.holdings.pipeline (calls_of rows.items) }
     ensures made { spec.Tells (λ a. HasCleanDisk (state S.Store conn.new) → spec.TellsMade S.Store is_strict
         book.old.day (calls_of rows.items) conn.old conn.new a) result }
+    ensures clean { HasCleanDisk (state S.Store conn.new) → HasCleanDisk (state S.Store conn.old) }
 {
     match make(conn) {
         Ok(()) => Ok(tell_calls(rt, alloc, conn, book, rows, is_strict, repeats)),

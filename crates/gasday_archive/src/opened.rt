@@ -63,8 +63,9 @@ pub fn audit_archive<S: Alter>(
     alloc: Global,
     conn: &mut Connection<S>,
 ) -> Result<Answer, AllocError>
-    ensures { spec.Tells (λ a. HasCleanDisk (state S.Store conn.new)
+    ensures told { spec.Tells (λ a. HasCleanDisk (state S.Store conn.new)
         → spec.TellsAudit S.Store conn.old conn.new a) result }
+    ensures clean { HasCleanDisk (state S.Store conn.new) → HasCleanDisk (state S.Store conn.old) }
 {
     let found = audit(conn, alloc);
     of_audit(alloc, &found)
@@ -76,8 +77,9 @@ pub fn audit_postings<S: Alter>(
     alloc: Global,
     conn: &mut Connection<S>,
 ) -> Result<Answer, AllocError>
-    ensures { spec.Tells (λ a. HasCleanDisk (state S.Store conn.new)
+    ensures told { spec.Tells (λ a. HasCleanDisk (state S.Store conn.new)
         → spec.TellsEach S.Store conn.old conn.new a) result }
+    ensures clean { HasCleanDisk (state S.Store conn.new) → HasCleanDisk (state S.Store conn.old) }
 {
     match audit_each(conn, alloc) {
         Ok(findings) => of_each(alloc, findings.as_slice()),

@@ -1,9 +1,12 @@
 -- What is done with the file of a book, and what is written of it.
-use Rattle.std.specs.Prelude.{◌≡◌, ◌⊎◌, ◌≤◌, ℕ, List, Option, Some, None, IfSome, Result, Ok, Err, ⊤}
+use Rattle.std.specs.Prelude.{◌≡◌, ◌≤◌, ℕ, List, Option, Some, None, IfSome, Result, Ok, Err, ⊤}
 use Rattle.sqlite_trees.specs.declared.store.Store.{Ghosts}
 use Rattle.sqlite.specs.Held.{Held, state}
 use Rattle.sqlite.specs.State.{HasCleanDisk}
 use Rattle.sqlite.specs.declared.error.Error.{Error}
+use Rattle.sqlite.specs.declared.error.Error.TheVariants.{SqliteFailure}
+use Rattle.sqlite.specs.declared.error.ErrorCode.TheVariants.{DatabaseBusy}
+use Rattle.gd_replies.specs.declared.reply.Reply.{Reply}
 use Rattle.gd_replies.specs.declared.reply.Reply.TheVariants as reply
 use Rattle.gasday_part.specs.Answers.{one}
 use Rattle.gasday_part.specs.Output.{WritesTold}
@@ -27,15 +30,21 @@ IsInquiry (Question file cycle round) = (1 ≤ cycle) × (cycle ≤ 5) × IfSome
 IsInquiry (Carry file) = ⊤
 IsInquiry order = ⊥
 
--- a file that can't be opened is told so, or that another process has it
-abbrev pub TellsUnopened : Option (List ℕ) → Option (List ℕ) → ℕ → Type 0
-TellsUnopened before behind status = WritesTold (λ a. (a ≡ one reply.Store 2) ⊎ (a ≡ one reply.Busy 2)) before behind status
+-- the row of a file that can't be opened, for this error: that another process has it, or that it can't be
+abbrev pub unopened_row : Error → Reply
+unopened_row (SqliteFailure DatabaseBusy) = reply.Busy
+unopened_row error = reply.Store
 
--- What is done on a file that the opener gives, where its store is clean at the end; or that it can't be opened.
-abbrev pub DoesOn : {S : Type 0} → Ghosts S → (Held S → Held S → Type 0) → Type 0 → Result (Held S) Error → Option (Held S) → Type 0
-DoesOn g does unopened (Ok opened) (Some left) = HasCleanDisk (state g left) → does opened left
+-- that row is told
+abbrev pub TellsUnopened : Option (List ℕ) → Option (List ℕ) → ℕ → Error → Type 0
+TellsUnopened before behind status error = WritesTold (λ a. a ≡ one (unopened_row error) 2) before behind status
+
+-- What is done on a file that the opener gives, where its store is clean at the end, and so was when it was opened; or that it can't
+-- be opened.
+abbrev pub DoesOn : {S : Type 0} → Ghosts S → (Held S → Held S → Type 0) → (Error → Type 0) → Result (Held S) Error → Option (Held S) → Type 0
+DoesOn g does unopened (Ok opened) (Some left) = HasCleanDisk (state g left) → HasCleanDisk (state g opened) × does opened left
 DoesOn g does unopened (Ok opened) None = ⊥
-DoesOn g does unopened (Err e) left = (left ≡ None) × unopened
+DoesOn g does unopened (Err error) left = (left ≡ None) × unopened error
 
 module _ {S : Type 0} (g : Ghosts S) (gives : Result (Held S) Error → Type 0) where
   -- lines of the input are served on the book of the file that the opener gives

@@ -1,5 +1,5 @@
 -- What comes of an order that names a file, or the two files of a question and its answer.
-use Rattle.std.specs.Prelude.{◌≡◌, ◌⊎◌, ◌≤◌, ℕ, min, List, length, take, drop, slice_get, Option, Some, None, Result}
+use Rattle.std.specs.Prelude.{◌≡◌, ◌≢◌, ◌⊎◌, ℕ, min, List, [], ◌∷◌, length, take, drop, slice_get, Option, Some, None, Result}
 use Rattle.sqlite_trees.specs.declared.store.Store.{Ghosts}
 use Rattle.sqlite.specs.Held.{Held}
 use Rattle.sqlite.specs.declared.error.Error.{Error}
@@ -13,8 +13,8 @@ use Rattle.gasday_orders.specs.declared.input.Text.{Text}
 use Rattle.gasday_orders.specs.declared.input.Unread.{Unread}
 use Rattle.gasday_orders.specs.declared.input.Unread.TheVariants as unread
 use Rattle.gasday_orders.specs.Checked.{TellsAnswer}
-use Rattle.gasday_orders.specs.Files.{AsksFile, AsksFor, ServesFile}
-use Rattle.gasday_orders.specs.Texts.{IsMadeOf}
+use Rattle.gasday_orders.specs.Files.{AsksFile, AsksFor, IsInquiry, ServesFile}
+use Rattle.gasday_orders.specs.Texts.{BlamesFile, IsMadeOf}
 
 -- the order only reads the file of this name
 abbrev pub OnlyReads : Ordered → List ℕ → Type 0
@@ -42,8 +42,9 @@ WritesUnread (unread.Standard fault error) before behind =
 abbrev pub RefusesFor : {S : Type 0} → Unread → Option (Held S) → Option (List ℕ) → Option (List ℕ) → ℕ → Type 0
 RefusesFor why left before behind status = (left ≡ None) × (status ≡ 2) × WritesUnread why before behind
 
-abbrev pub Refuses : {S : Type 0} → Option (Held S) → Option (List ℕ) → Option (List ℕ) → ℕ → Type 0
-Refuses left before behind status = (why : Unread) × RefusesFor why left before behind status
+-- no text can be read, for a reason of this kind
+abbrev pub Refuses : {S : Type 0} → (Unread → Type 0) → Option (Held S) → Option (List ℕ) → Option (List ℕ) → ℕ → Type 0
+Refuses blames left before behind status = (why : Unread) × blames why × RefusesFor why left before behind status
 
 -- where the second file begins, in a text of so many bytes
 abbrev pub begun_by : ℕ → Option Part → ℕ
@@ -60,29 +61,30 @@ ChecksText text left before behind status =
     (left ≡ None)
     × WritesTold (TellsAnswer (take (first_length text) text.bytes.items) (drop (first_length text) text.bytes.items)) before behind status
 
--- an answer is checked, of a text of so many files, or one of these can't be read
-abbrev pub Checks : {S : Type 0} → ℕ → Option (Held S) → Option (List ℕ) → Option (List ℕ) → ℕ → Type 0
-Checks count left before behind status =
-    ((text : Text) × IsMadeOf count text × ChecksText text left before behind status) ⊎ Refuses left before behind status
+-- an answer is checked, of the text of these files, or one of them can't be read
+abbrev pub Checks : {S : Type 0} → List (List ℕ) → Option (Held S) → Option (List ℕ) → Option (List ℕ) → ℕ → Type 0
+Checks names left before behind status =
+    ((text : Text) × IsMadeOf names text × ChecksText text left before behind status) ⊎ Refuses (BlamesFile names) left before behind status
 
 module _ {S : Type 0} (g : Ghosts S) (gives : Result (Held S) Error → Type 0) where
-  -- Lines are served on the book of the file that the opener gives: of so many files, or of the input where none is named; or they
-  -- can't be read.
-  abbrev pub Serves : Option (List ℕ) → ℕ → Option (Held S) → Option (List ℕ) → Option (List ℕ) → ℕ → Type 0
-  Serves input count left before behind status =
-      ((count ≡ 0) × ServesFile g gives input left before behind status)
-      ⊎ ((1 ≤ count) × (text : Text) × IsMadeOf count text × ServesFile g gives (Some text.bytes.items) left before behind status)
-      ⊎ Refuses left before behind status
+  -- Lines are served on the book of the file that the opener gives: of the files of these names, or of the input where none is named;
+  -- or they can't be read.
+  abbrev pub Serves : Option (List ℕ) → List (List ℕ) → Option (Held S) → Option (List ℕ) → Option (List ℕ) → ℕ → Type 0
+  Serves input names left before behind status =
+      ((names ≡ []) × ServesFile g gives input left before behind status)
+      ⊎ ((names ≢ []) × (text : Text) × IsMadeOf names text × ServesFile g gives (Some text.bytes.items) left before behind status)
+      ⊎ Refuses (BlamesFile names) left before behind status
 
-  -- this is asked of the book of the file that the opener gives, or of that of a text
-  abbrev pub AsksThis : Inquiry → Option (Held S) → Option (List ℕ) → Option (List ℕ) → ℕ → Type 0
-  AsksThis asked left before behind status =
+  -- this is asked of the book of the file that the opener gives, or of that of the text of this name
+  abbrev pub AsksThis : Inquiry → List ℕ → Option (Held S) → Option (List ℕ) → Option (List ℕ) → ℕ → Type 0
+  AsksThis asked name left before behind status =
       AsksFile g gives asked left before behind status
-      ⊎ ((text : Text) × IsMadeOf 1 text × (left ≡ None) × AsksText text.bytes.items asked before behind status)
+      ⊎ ((text : Text) × IsMadeOf (name ∷ []) text × (left ≡ None) × AsksText text.bytes.items asked before behind status)
 
-  -- what an order asks is asked; or the text can't be read; or nothing is written, with status 2
-  abbrev pub Asks : Ordered → Option (Held S) → Option (List ℕ) → Option (List ℕ) → ℕ → Type 0
-  Asks order left before behind status =
-      ((asked : Inquiry) × AsksFor order asked × AsksThis asked left before behind status)
-      ⊎ Refuses left before behind status
-      ⊎ ((left ≡ None) × (status ≡ 2) × (behind ≡ before))
+  -- What an order asks of the file of this name is asked, or that can't be read. Of one that asks nothing nothing is written, with
+  -- status 2.
+  abbrev pub Asks : Ordered → List ℕ → Option (Held S) → Option (List ℕ) → Option (List ℕ) → ℕ → Type 0
+  Asks order name left before behind status =
+      ((asked : Inquiry) × AsksFor order asked × AsksThis asked name left before behind status)
+      ⊎ Refuses (BlamesFile (name ∷ [])) left before behind status
+      ⊎ ((IsInquiry order → ⊥) × (left ≡ None) × (status ≡ 2) × (behind ≡ before))

@@ -92,7 +92,7 @@ pub fn ask<'a, T: Threads + Sync, S: Alter + Drop, W: Write, O: Opener<S>>(
     writer: &mut W,
     file: O,
 ) -> Ended<'a, S>
-    ensures { Asks S.Store (O.Opener.opens file) (seen order.entry) result.ran.file
+    ensures { Asks S.Store (O.Opener.opens file) (seen order.entry) name.entry.now result.ran.file
         (W.contents writer.old) (W.contents writer.new) result.ran.status }
 {
     // (What is no cycle or round is a usage fault, of which there is no request.)

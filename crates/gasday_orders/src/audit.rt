@@ -20,8 +20,9 @@ fn audit_file<S: Alter>(
     conn: &mut Connection<S>,
     each: bool,
 ) -> Result<Answer, AllocError>
-    ensures { Tells (λ a. HasCleanDisk (state S.Store conn.new)
+    ensures told { Tells (λ a. HasCleanDisk (state S.Store conn.new)
         → TellsAudit S.Store each conn.old conn.new a) result }
+    ensures clean { HasCleanDisk (state S.Store conn.new) → HasCleanDisk (state S.Store conn.old) }
 {
     if is_journal(conn) {
         return audit_book(threads, alloc, conn);

@@ -1,9 +1,8 @@
 //! Orders on the file of a book.
 
-ghost use Rattle.std.specs.Prelude.{◌≡◌, ◌⊎◌, ◌≢◌, IfSome};
+ghost use Rattle.std.specs.Prelude.{◌≡◌, ◌≢◌, IfSome};
 ghost use Rattle.gasday_words.specs.Ordered.{seen};
-ghost use Rattle.gd_replies.specs.declared.reply.Reply.TheVariants as reply;
-ghost use Rattle.gasday_orders.specs.Files.{AsksFile, AsksFor, IsInquiry, PrintsFile, ServesFile, TellsUnopened};
+ghost use Rattle.gasday_orders.specs.Files.{AsksFile, AsksFor, IsInquiry, PrintsFile, ServesFile, TellsUnopened, unopened_row as row_of};
 
 use crate::ran::Ran;
 use gasday_archive::Opener;
@@ -40,7 +39,7 @@ pub(crate) fn inquiry_of(order: Order<'_>) -> Option<Inquiry>
 
 /// The row of a file that can't be opened.
 fn unopened_row(error: &Error) -> Reply
-    ensures { (result ≡ reply.Store) ⊎ (result ≡ reply.Busy) }
+    ensures { result ≡ row_of error.now }
 {
     match error {
         Error::SqliteFailure(ErrorCode::DatabaseBusy) => Reply::Busy,
@@ -50,7 +49,7 @@ fn unopened_row(error: &Error) -> Reply
 
 /// Writes that a file can't be opened.
 fn write_unopened<S: Alter + Drop, W: Write>(alloc: Global, error: &Error, writer: &mut W) -> Ran<S>
-    ensures told { TellsUnopened (W.contents writer.old) (W.contents writer.new) result.status }
+    ensures told { TellsUnopened (W.contents writer.old) (W.contents writer.new) result.status error.now }
     ensures file { result.file ≡ None }
 {
     let answer = of_one(alloc, unopened_row(error), 2);

@@ -1,6 +1,7 @@
 //! The check of an answer to a question.
 
-ghost use Rattle.std.specs.Prelude.{◌≡◌, None, length, take, drop};
+ghost use Rattle.std.specs.Prelude.{◌≡◌, None, take, drop};
+ghost use Rattle.gasday_words.specs.Ordered.{requested};
 ghost use Rattle.gasday_part.specs.Output.{WritesTold};
 ghost use Rattle.gasday_orders.specs.Checked.{TellsAnswer};
 ghost use Rattle.gasday_orders.specs.Orders.{Checks, ChecksText, first_length};
@@ -77,7 +78,7 @@ pub fn check<'a, T: Threads + Sync, S: Alter + Drop, W: Write>(
     request: &Request<'a>,
     writer: &mut W,
 ) -> Ended<'a, S>
-    ensures { Checks (length request.now.texts.items) result.ran.file
+    ensures { Checks (requested request.now).texts result.ran.file
         (W.contents writer.old) (W.contents writer.new) result.ran.status }
 {
     match Text::of_files(rt, request.texts.as_slice()) {

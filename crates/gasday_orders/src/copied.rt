@@ -2,7 +2,10 @@
 
 ghost use Rattle.std.specs.Prelude.{IfOk, IfSome, IsTrue};
 ghost use Rattle.sqlite_disk.specs.Memory.{memory_is_usable};
+ghost use Rattle.sqlite.specs.Files.{Finds, file_state};
+ghost use Rattle.sqlite.specs.State.{HasCleanDisk};
 ghost use Rattle.gasday_words.specs.Ordered.{seen};
+ghost use Rattle.gasday_orders.specs.Opening.{FindsCopy};
 ghost use Rattle.gasday_orders.specs.Orders.{OnlyReads};
 
 use crate::file::is_database;
@@ -121,6 +124,8 @@ fn opened(
 ) -> Result<Connection<FileStore<Memory>>, Error>
     requires log { IsTrue (memory_is_usable files.log) }
     requires db { IsTrue (memory_is_usable files.db) }
+    ensures found { IfOk result (λ file. HasCleanDisk (file_state file) → Finds files file) }
+    ensures copy { FindsCopy result }
 {
     match Connection::open_files(alloc, files, Options::new(seed)) {
         Ok(conn) => Ok(conn),
@@ -147,10 +152,8 @@ pub struct CopiedFile<'a> {
 }
 
 impl<'a> Opener<FileStore<Memory>> for CopiedFile<'a> {
-    ghost use Rattle.std.specs.Prelude.{⊤};
-
-    // Whatever the file is, or why there is no copy.
-    ghost opens = { λ file opened. ⊤ };
+    // What the copy holds. That it is one of the file, and why there is none, are left open.
+    ghost opens = { λ file opened. FindsCopy opened };
 
     fn open(self) -> Result<Connection<FileStore<Memory>>, Error> {
         let alloc = self.rt.alloc();

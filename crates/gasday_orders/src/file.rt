@@ -1,15 +1,18 @@
 //! The file that an order names: an archive's, or a book's.
 
-ghost use Rattle.std.specs.Prelude.{◌≡◌, IfSome};
+ghost use Rattle.std.specs.Prelude.{◌≡◌, [], true, Ok, IfOk, IfErr, IfSome, IsTrue};
+ghost use Rattle.sqlite.specs.Opening.{is_open_error};
 ghost use Rattle.gasday_words.specs.Ordered.{seen};
 ghost use Rattle.gasday_orders.specs.Closing.{Closes};
+ghost use Rattle.gasday_orders.specs.Opening.{FindsAs};
 ghost use Rattle.gasday_orders.specs.Orders.{IsOn};
 
 use crate::told::{tell_cause, tell_unopened};
 use gasday_archive::Opener;
 use gasday_words::Order;
-use sqlite::{Connection, Error, ErrorCode, File as StoreFile, FileStore, Unknown};
-use sqlite_disk::Disk;
+use sqlite::{Connection, Error, ErrorCode, FileStore, Unknown};
+use sqlite_disk::{Disk, Start};
+use sqlite_std_file::FileFrom;
 use std::alloc::AllocError;
 use std::fs::{File, metadata};
 use std::io;
@@ -17,13 +20,32 @@ use std::io::{ErrorKind, Read};
 use std::thread::sleep;
 use std::time::Duration;
 
+/// Stands for what a file and its log hold as they are opened, for the program to name. No code can read that beforehand, so what is
+/// proved of files is proved of functions over any `Start`. A torn write is supposed to leave each byte old or new.
+#[derive(Clone, Copy, Drop)]
+pub struct AsFound;
+
+impl Start for AsFound {
+    ghost log = { [] };
+
+    ghost db = { [] };
+
+    ghost is_mixing = { true };
+
+    fn mixes() -> bool {
+        true
+    }
+}
+
 /// The file that an order names.
 #[derive(Drop)]
-pub struct NamedFile<'a> {
+pub struct NamedFile<'a, F: Start + Copy> {
     pub rt: &'a HostRuntime,
     pub order: Order<'a>,
     /// For how many seconds it is tried again where another process has it.
     pub wait: u32,
+    /// Stands for what the file and its log hold.
+    pub found: F,
 }
 
 /// How often a second a file is tried that another process has, and the milliseconds from one try to the next.
@@ -31,7 +53,7 @@ const TRIES: u64 = 10;
 
 const PAUSE: u64 = 100;
 
-impl<'a> NamedFile<'a> {
+impl<'a, F: Start + Copy> NamedFile<'a, F> {
     /// The name of a file that is there and has something, or people are told what is wrong with it.
     fn present(&self, file: &'a str) -> Option<&'a str>
         ensures { IfSome result (λ name. name.now ≡ file.now) }
@@ -65,17 +87,35 @@ impl<'a> NamedFile<'a> {
         }
     }
 
-    /// Opens the file, as soon as no other process has it, if it waits so long.
-    fn opened(&self, name: &str) -> Result<Connection<FileStore<StoreFile>>, Error> {
-        'tries: for _ in 0..u64::from(self.wait) * TRIES {
-            match Connection::open(self.rt, name) {
-                Err(Error::SqliteFailure(ErrorCode::DatabaseBusy)) => {
-                    sleep(self.rt, Duration::from_millis(PAUSE));
-                }
-                opened => return opened,
+    /// Opens the file; `None` where another process has it, and then nothing of it was read or written.
+    fn tried(&self, name: &str) -> Result<Option<Connection<FileStore<FileFrom<F>>>>, Error>
+        ensures ok { IfOk result (λ file. IfSome file (λ file. FindsAs F.Start (Ok file))) }
+        ensures err { IfErr result (λ error. IsTrue (is_open_error error)) }
+    {
+        match Connection::open_from(self.rt, name, false, self.found) {
+            Ok(file) => Ok(Some(file)),
+            Err((Error::SqliteFailure(ErrorCode::DatabaseBusy), None)) => Ok(None),
+            Err((error, left)) => {
+                drop(left);
+                Err(error)
             }
         }
-        Connection::open(self.rt, name)
+    }
+
+    /// Opens the file, as soon as no other process has it, if it waits so long.
+    fn opened(&self, name: &str) -> Result<Connection<FileStore<FileFrom<F>>>, Error>
+        ensures { FindsAs F.Start result }
+    {
+        'tries: for _ in 0..u64::from(self.wait) * TRIES {
+            if let Some(file) = self.tried(name)? {
+                return Ok(file);
+            }
+            sleep(self.rt, Duration::from_millis(PAUSE));
+        }
+        match self.tried(name)? {
+            Some(file) => Ok(file),
+            None => Err(Error::SqliteFailure(ErrorCode::DatabaseBusy)),
+        }
     }
 
     /// Tells people why the file can't be opened.
@@ -100,13 +140,11 @@ fn cause(rt: &HostRuntime, name: &str, error: &Error) -> Result<String, AllocErr
     }
 }
 
-impl<'a> Opener<FileStore<StoreFile>> for NamedFile<'a> {
-    ghost use Rattle.std.specs.Prelude.{⊤};
+impl<'a, F: Start + Copy> Opener<FileStore<FileFrom<F>>> for NamedFile<'a, F> {
+    // What the file holds. Which file that is, and why it can't be opened, are left open.
+    ghost opens = { λ file opened. FindsAs F.Start opened };
 
-    // Whatever the file is, or why it can't be opened.
-    ghost opens = { λ file opened. ⊤ };
-
-    fn open(self) -> Result<Connection<FileStore<StoreFile>>, Error> {
+    fn open(self) -> Result<Connection<FileStore<FileFrom<F>>>, Error> {
         let Some(name) = self.name() else {
             return Err(Error::SqliteFailure(ErrorCode::CannotOpen));
         };

@@ -1,8 +1,8 @@
 //! Where a text comes from: standard input, or files that were named.
 
-ghost use Rattle.std.specs.Prelude.{◌≡◌, ℕ, List, [], length, IfOk, IfSome};
-ghost use Rattle.gasday_words.specs.Ordered.{seen};
-ghost use Rattle.gasday_orders.specs.Texts.{Adds, IsMadeOf, IsTextOf, joined};
+ghost use Rattle.std.specs.Prelude.{◌≡◌, ℕ, List, [], ◌∷◌, map, IfOk, IfErr, IfSome};
+ghost use Rattle.gasday_words.specs.Ordered.{requested, seen};
+ghost use Rattle.gasday_orders.specs.Texts.{Adds, BlamesFile, BlamesInput, IsMadeOf, IsTextOf, IsUnread, ReadsText, joined};
 
 use crate::file::is_database;
 use crate::noted::Noted;
@@ -92,7 +92,7 @@ impl<'a> Text<'a> {
 
     /// Puts a file behind the others.
     fn add(&mut self, rt: &HostRuntime, name: &'a str) -> io::Result<()>
-        ensures { IfOk result (λ done. Adds self.old self.new) }
+        ensures { IfOk result (λ done. Adds name.entry.now self.old self.new) }
     {
         let begin = self.bytes.len();
         self.parts.push(Part { name, begin })?;
@@ -101,7 +101,8 @@ impl<'a> Text<'a> {
 
     /// What these files have, in order.
     pub(crate) fn of_files(rt: &HostRuntime, names: &[&'a str]) -> Result<Text<'a>, Unread<'a>>
-        ensures { IfOk result (λ text. IsMadeOf (length names.now) text) }
+        ensures text { IfOk result (IsMadeOf (map (λ n. n.now) names.now)) }
+        ensures unread { IfErr result (BlamesFile (map (λ n. n.now) names.now)) }
     {
         let mut text = Text::empty(rt);
         'names: for name in names {
@@ -117,7 +118,8 @@ impl<'a> Text<'a> {
         rt: &HostRuntime,
         input: R,
     ) -> Result<Text<'a>, Unread<'a>>
-        ensures { IfOk result (λ text. IfSome (R.remaining input) (λ all. text.bytes.items ≡ all)) }
+        ensures text { IfOk result (λ text. IfSome (R.remaining input) (λ all. text.bytes.items ≡ all)) }
+        ensures unread { IfErr result (BlamesInput (R.remaining input)) }
     {
         let mut reader = Noted::new(input);
         match read_bytes(rt.alloc(), &mut reader) {
@@ -132,7 +134,8 @@ impl<'a> Text<'a> {
 
 /// The text of a file, or of standard input; `None` of a database.
 pub(crate) fn named_by<'a>(rt: &HostRuntime, file: &'a str) -> Result<Option<Text<'a>>, Unread<'a>>
-    ensures { IfOk result (λ found. IfSome found (λ text. IsMadeOf 1 text)) }
+    ensures text { IfOk result (λ found. IfSome found (IsMadeOf (file.entry.now ∷ []))) }
+    ensures unread { IfErr result (BlamesFile (file.entry.now ∷ [])) }
 {
     if file != STANDARD_INPUT {
         match is_database(rt, file) {
@@ -155,8 +158,9 @@ pub fn text_of<'a, R: Read + Drop>(
     request: &Request<'a>,
     input: R,
 ) -> Result<Text<'a>, Unread<'a>>
-    ensures { IfOk result (λ text. IsTextOf (R.remaining input) (seen request.now.order)
-        (length request.now.texts.items) text) }
+    ensures text { IfOk result (IsTextOf (R.remaining input) (seen request.now.order) (requested request.now).texts) }
+    ensures unread { IfErr result (λ why. ReadsText (seen request.now.order)
+        × IsUnread (R.remaining input) (requested request.now).texts why) }
 {
     match request.order {
         Order::Audit(_) | Order::AuditEach(_) | Order::Migrate(_) => Ok(Text::empty(rt)),

@@ -21,7 +21,7 @@ pub use audit::tell_audit;
 pub use checking::check;
 pub use closing::end;
 pub use copied::{CopiedFile, unwritable};
-pub use file::NamedFile;
+pub use file::{AsFound, NamedFile};
 pub use input::{Text, Unread, text_of};
 pub use noted::Noted;
 pub use ran::{Ended, Ran};

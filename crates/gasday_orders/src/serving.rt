@@ -1,6 +1,6 @@
 //! Lines that are served on the book of a file as they come, and told to people.
 
-ghost use Rattle.std.specs.Prelude.{length};
+ghost use Rattle.gasday_words.specs.Ordered.{requested};
 ghost use Rattle.gasday_orders.specs.Files.{ServesFile};
 ghost use Rattle.gasday_orders.specs.Orders.{Serves};
 
@@ -78,7 +78,7 @@ where
     R: Read + Drop,
     W: Write,
     O: Opener<S>,
-    ensures { Serves S.Store (O.Opener.opens file) (R.remaining input) (length request.now.texts.items)
+    ensures { Serves S.Store (O.Opener.opens file) (R.remaining input) (requested request.now).texts
         result.ran.file (W.contents writer.old) (W.contents writer.new) result.ran.status }
 {
     if request.texts.is_empty() {

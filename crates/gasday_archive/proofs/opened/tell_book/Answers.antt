@@ -17,6 +17,6 @@ returns g c =
     let t = c.tell_in_archive-answer.ensures.made in
     record {
       told = t.told;
-      means = subst (λ o. TellsOf g.S.Store (TellsMade g.S.Store c.args.is_strict c.args.book.now.day (calls_of c.args.rows.items)) o (Some c.tell_in_archive-answer.new.conn) t.told) (sym c.in-Ok.is) t.means;
+      means = subst (λ o. TellsOf g.S.Store (TellsMade g.S.Store c.args.is_strict c.args.book.now.day (calls_of c.args.rows.items)) o (Some c.tell_in_archive-answer.new.conn) t.told) (sym c.in-Ok.is) (λ clean. (c.tell_in_archive-answer.ensures.clean clean, t.means clean));
       is = t.is;
     }

@@ -14,6 +14,6 @@ returns-in_default g c = record {
 pub returns : goal.returns
 returns g c = record {
   told = migrated c.migrate-carried.result;
-  means = subst (λ o. TellsOf g.S.Store (TellsMigration g.S.Store) o (Some c.migrate-carried.new.conn) (migrated c.migrate-carried.result)) (sym c.in-Ok.is) (λ clean. (c.migrate-carried.result, c.migrate-carried.ensures.migrated clean, refl));
+  means = subst (λ o. TellsOf g.S.Store (TellsMigration g.S.Store) o (Some c.migrate-carried.new.conn) (migrated c.migrate-carried.result)) (sym c.in-Ok.is) (λ clean. (c.migrate-carried.ensures.clean clean, (c.migrate-carried.result, c.migrate-carried.ensures.migrated clean, refl)));
   is = c.of_migration.ensures;
 }

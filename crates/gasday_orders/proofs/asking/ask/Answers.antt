@@ -6,5 +6,5 @@ pub returns-in-Ok-Some : goal.returns-in-Ok-Some
 returns-in-Ok-Some g c = inl (
   c.in-Some.inquiry,
   c.in-Some.ensures.asks,
-  inr (c.in-Ok-Some.text, found c.in-Ok-Some.field-0 c.in-Ok-Some.text c.in-Ok-Some.field-0-is c.in-Ok-Some.ensures, c.ask_rows.ensures.file, c.ask_rows.ensures.asked),
+  inr (c.in-Ok-Some.text, found c.args.name.now c.in-Ok-Some.field-0 c.in-Ok-Some.text c.in-Ok-Some.field-0-is c.in-Ok-Some.ensures.text, c.ask_rows.ensures.file, c.ask_rows.ensures.asked),
 )

@@ -14,9 +14,9 @@ returns-in_default g c = record {
 
 pub returns : goal.returns
 returns g c =
-    let t = c.audit_file-answer.ensures in
+    let t = c.audit_file-answer.ensures.told in
     record {
       told = t.told;
-      means = subst (λ o. TellsOf g.S.Store (TellsAudit g.S.Store c.args.each) o (Some c.audit_file-answer.new.conn) t.told) (sym c.in-Ok.is) t.means;
+      means = subst (λ o. TellsOf g.S.Store (TellsAudit g.S.Store c.args.each) o (Some c.audit_file-answer.new.conn) t.told) (sym c.in-Ok.is) (λ clean. (c.audit_file-answer.ensures.clean clean, t.means clean));
       is = t.is;
     }

@@ -11,7 +11,7 @@ returns-in-Ok g c = (
   c.open.ensures,
   subst (λ o. DoesOn g.S.Store (λ old new. AsksBook (state g.S.Store old) c.args.inquiry (g.W.Write.contents c.args.writer.now) (g.W.Write.contents c.ask_book-status.new.writer) c.ask_book-status.result.status)
       (TellsUnopened (g.W.Write.contents c.args.writer.now) (g.W.Write.contents c.ask_book-status.new.writer) c.ask_book-status.result.status) o (Some c.ask_book-status.new.conn))
-      (sym c.in-Ok.is) (λ clean. c.ask_book-status.ensures.asked clean),
+      (sym c.in-Ok.is) (λ clean. (c.ask_book-status.ensures.clean clean, c.ask_book-status.ensures.asked clean)),
 )
 
 pub returns-in-Err : goal.returns-in-Err

@@ -11,7 +11,7 @@ returns-in-Ok g c = (
   c.open.ensures,
   subst (λ o. DoesOn g.S.Store (λ old new. Prints (state g.S.Store old) (g.W.Write.contents c.args.writer.now) (g.W.Write.contents c.print_book-status.new.writer) c.print_book-status.result.status)
       (TellsUnopened (g.W.Write.contents c.args.writer.now) (g.W.Write.contents c.print_book-status.new.writer) c.print_book-status.result.status) o (Some c.print_book-status.new.conn))
-      (sym c.in-Ok.is) (λ clean. c.print_book-status.ensures.printed clean),
+      (sym c.in-Ok.is) (λ clean. (c.print_book-status.ensures.clean clean, c.print_book-status.ensures.printed clean)),
 )
 
 pub returns-in-Err : goal.returns-in-Err

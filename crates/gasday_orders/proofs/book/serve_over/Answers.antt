@@ -11,7 +11,7 @@ returns-in-Ok g c = (
   c.open.ensures,
   subst (λ o. DoesOn g.S.Store (λ old new. Runs (g.R.Read.remaining c.args.reader) (state g.S.Store old) (state g.S.Store new) (g.W.Write.contents c.args.writer.now) (g.W.Write.contents c.serve_book-status.new.writer) c.serve_book-status.result.status)
       (TellsUnopened (g.W.Write.contents c.args.writer.now) (g.W.Write.contents c.serve_book-status.new.writer) c.serve_book-status.result.status) o (Some c.serve_book-status.new.conn))
-      (sym c.in-Ok.is) (λ clean. c.serve_book-status.ensures.run),
+      (sym c.in-Ok.is) (λ clean. (c.serve_book-status.ensures.clean clean, c.serve_book-status.ensures.run)),
 )
 
 pub returns-in-Err : goal.returns-in-Err
