@@ -3,12 +3,14 @@
 
 Samples the processes of the gate that runs below FOLDER until the file STOP is there, and then prints the processor time that
 each crate took, in seconds: its proof, its tests and its edits, the longest crate first; then what the scripts took that hand
-out the work, and the sum in minutes against the budget. Processes that end between two samples are seen up to the last one,
-so the sum is a little less than what the gate took. The last line is '1 passed, 0 failed', or '0 passed, 1 failed' where the
-sum is above the budget by more than a fifth.
+out the work, and the sum in minutes against the budget, with the share of the crates of a book's file. Processes that end
+between two samples are seen up to the last one, so the sum is a little less than what the gate took. The last line is
+'1 passed, 0 failed', or '0 passed, 1 failed' where the sum is above the budget by more than a fifth.
 
 The budget is in minutes of a processor as fast as where it was reckoned. A check that is always the same tells now and then how
-much slower this machine is, beside the gate (tests/yardstick.py), and the budget is that much longer here.
+much slower this machine is, beside the gate (tests/yardstick.py), and the budget is that much longer here. A slow memory slows
+that check less than long proofs, so what these take beside what they took there (tests/proof_seconds.txt) is told too, by the
+median of the crates, whose proofs may have changed since.
 """
 
 import os
@@ -26,9 +28,12 @@ SECONDS = 2
 # How long to wait between two looks at how slow the machine is.
 BETWEEN = 300
 # Processor minutes for all proofs, tests and edits, and how much more fails the report.
-# (230 for all before the live book, and 25 for that: gd_opening, gd_serving, gd_live, gd_live_text, gd_rounds, gasday_live and its
-# tests in gasday_tests)
 BUDGET, MORE = 255, 1.2
+# How many of them are for the book of a file, and 230 for all else: for these crates, and for its tests, which stand in gasday_tests
+# beside others.
+LIVE, FOR_LIVE = ("gd_opening", "gd_serving", "gd_live", "gd_live_text", "gd_rounds", "gasday_live"), 25
+# What the proofs took where the budget was reckoned, in seconds, by crate.
+MEASURED = Path(__file__).with_name("proof_seconds.txt")
 TICK = os.sysconf("SC_CLK_TCK")
 EDIT = re.compile(r"/(?:rt-edit|gasday-edits)[\w-]*")
 KINDS = ("proof", "tests", "edits")
@@ -104,6 +109,13 @@ class Pace:
         return max(1, statistics.fmean([it for it in self.seen if it] or [1]))
 
 
+def proofs_beside(rows):
+    """How much longer proofs took than where the budget was reckoned, by the median, and of how many crates."""
+    measured = {name: int(taken) for name, taken in map(str.split, MEASURED.read_text().splitlines())}
+    shares = [taken["proof"] / measured[crate] for crate, taken in rows if crate in measured and taken["proof"]]
+    return statistics.median(shares or [1]), len(shares)
+
+
 def main():
     if len(sys.argv) != 3:
         print(__doc__.strip())
@@ -121,6 +133,12 @@ def main():
     whole = sum(sums) + scripts
     print(f"all: proof {sums[0]:.1f} min, tests {sums[1]:.1f} min, edits {sums[2]:.1f} min, scripts {scripts:.1f} min: "
           f"{whole:.1f} min, {whole / slower:.1f} of {BUDGET} where a check takes {slower:.2f} times as long as there")
+    live = sum(sum(taken.values()) for crate, taken in rows if crate in LIVE) / 60
+    print(f"of these the crates of a book's file: {live:.1f} min, {live / slower:.1f} of {FOR_LIVE}, "
+          "which are for its tests in gasday_tests too")
+    longer, count = proofs_beside(rows)
+    print(f"proofs took {longer:.2f} times as long as there, by the median of {count} crates: "
+          f"{whole / longer:.1f} min in all, {live / longer:.1f} for a book's file")
     is_within = whole <= MORE * BUDGET * slower
     print(f"{int(is_within)} passed, {int(not is_within)} failed")
     return 0 if is_within else 1
