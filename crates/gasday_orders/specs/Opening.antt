@@ -19,26 +19,30 @@ use Rattle.sqlite.specs.Opening.{is_open_error}
 use Rattle.sqlite.specs.Start.{FindsIn}
 use Rattle.sqlite.specs.State.{HasCleanDisk}
 
--- the disk that a file of the system is, of which this was found as it was opened
+-- a file of the system as a disk, by what it held as it was opened
 abbrev pub disk_of : (F : RattleType) (found : start.Ghosts F.Denot) → Ghosts (Modelled Host F.Denot calls.ghosts found)
 disk_of F found = modelled.ghosts host.the_row F calls.ghosts modelled.no_dict found modelled.no_dict modelled.no_dict
 
 module _ {F : Type 0} (found : start.Ghosts F) {D : Type 0} {g : Ghosts D} where
-  -- An open database is the one that the file and its log hold. A new one has no sums behind its pages.
+  -- The database that is open is the one that the file and its log hold; or a new one, whose pages end in no sums, where they hold
+  -- none.
   pub record IsHeld (file : Held (FileStore D g)) : Type 0 where
     pub opened : IsOpened file
     pub holds : FindsIn (image_at found) (file_state file)
     pub plain : IsBlankAs false (image_at found) → (view file.store).has_sums ≡ false
     pub guarded : (file_state file).IsShielded
 
-  -- What is opened where a file and its log hold this: that database, of which nothing was asked yet, if the disk gave back what was
-  -- written to it; or nothing, for one of the errors of an open.
+  -- What is opened where a file and its log hold this: a new connection, and, if the disk gave back what was written to it, to that
+  -- database; or nothing, for one of the errors of an open.
   abbrev pub FindsAs : Result (Held (FileStore D g)) Error → Type 0
   FindsAs (Ok file) = IsNew file × (HasCleanDisk (file_state file) → IsHeld file)
   FindsAs (Err error) = IsTrue (is_open_error error)
 
 module _ {D : Type 0} {g : Ghosts D} where
-  -- What is opened of a copy: the database that some bytes hold, and which they are is left open; or nothing, as above.
+  -- What is opened of a copy: a new connection to the database that some bytes hold, and which they are is left open; or nothing, as
+  -- above.
   abbrev pub FindsCopy : Result (Held (FileStore D g)) Error → Type 0
-  FindsCopy (Ok file) = HasCleanDisk (file_state file) → IsOpened file × ((files : Files D) × Finds files file)
+  FindsCopy (Ok file) =
+      IsNew file
+      × (HasCleanDisk (file_state file) → IsOpened file × (file_state file).IsShielded × ((files : Files D) × Finds files file))
   FindsCopy (Err error) = IsTrue (is_open_error error)

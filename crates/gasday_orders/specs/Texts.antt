@@ -47,7 +47,7 @@ pub data IsMadeOf : List (List ℕ) → Text → Type 0 where
 -- The text that is read where these files are named: theirs, or where none is named all that the input has, if it tells that.
 abbrev pub IsRead : Option (List ℕ) → List (List ℕ) → Text → Type 0
 IsRead input names text =
-    ((names ≡ []) × IfSome input (λ all. text.bytes.items ≡ all)) ⊎ ((names ≢ []) × IsMadeOf names text)
+    ((names ≡ []) × (text.parts.items ≡ []) × IfSome input (λ all. text.bytes.items ≡ all)) ⊎ ((names ≢ []) × IsMadeOf names text)
 
 -- of an order that audits or migrates any text, since it looks at none
 abbrev pub IsTextOf : Option (List ℕ) → Ordered → List (List ℕ) → Text → Type 0
@@ -61,7 +61,8 @@ abbrev pub BlamesFile : List (List ℕ) → Unread → Type 0
 BlamesFile names (unread.File name error) = Contains names name.now
 BlamesFile names (unread.Standard fault error) = ⊥
 
--- The input is blamed: it can't be read, there is no memory for it, or it has more bytes than a text may have or reads may bring.
+-- The input is blamed: it can't be read, there is no memory for it, or it has more bytes than a text may have, or at least as many as
+-- there may be reads.
 abbrev pub BlamesInput : Option (List ℕ) → Unread → Type 0
 BlamesInput input (unread.File name error) = ⊥
 BlamesInput input (unread.Standard fault error) = BlamesNoRow (IfSome input HasManyBytes) fault
@@ -70,7 +71,7 @@ BlamesInput input (unread.Standard fault error) = BlamesNoRow (IfSome input HasM
 abbrev pub IsUnread : Option (List ℕ) → List (List ℕ) → Unread → Type 0
 IsUnread input names why = ((names ≡ []) × BlamesInput input why) ⊎ BlamesFile names why
 
--- a text is read for this order: not for one that audits or migrates
+-- a text may be read for this order: none is for one that audits or migrates
 abbrev pub ReadsText : Ordered → Type 0
 ReadsText (Audit file) = ⊥
 ReadsText (AuditEach file) = ⊥

@@ -4,7 +4,7 @@ ghost use Rattle.std.specs.Prelude.{◌≡◌};
 ghost use Rattle.gasday_words.specs.Ordered.{seen};
 ghost use Rattle.gasday_orders.specs.Closing.{Exits, status_closed};
 
-use crate::file::close;
+use crate::file::close_file;
 use crate::ran::{Ended, Ran};
 use crate::told::{Course, tell_course, tell_unclosed, tell_unread, tell_unwritten, tell_why};
 use gasday_words::Order;
@@ -58,7 +58,7 @@ pub fn end<D: Disk + Drop>(
         course,
     } = ran;
     let is_unopened = file.is_none();
-    let status = closed(rt, order, close(file), status);
+    let status = closed(rt, order, close_file(file), status);
     match (unwritten, &course) {
         (None, Some(course)) => tell_course(rt, course),
         _ => {}

@@ -21,7 +21,9 @@ use std::thread::sleep;
 use std::time::Duration;
 
 /// Stands for what a file and its log hold as they are opened, for the program to name. No code can read that beforehand, so what is
-/// proved of files is proved of functions over any `Start`. A torn write is supposed to leave each byte old or new.
+/// proved of files is proved of functions over any `Start`. This one's contents are empty, as those of the kit's `Unknown` are, which
+/// can't be copied: at it a clause on values says nothing of a file that has something. A torn write is supposed to leave each byte
+/// old or new.
 #[derive(Clone, Copy, Drop)]
 pub struct AsFound;
 
@@ -87,7 +89,7 @@ impl<'a, F: Start + Copy> NamedFile<'a, F> {
         }
     }
 
-    /// Opens the file; `None` where another process has it, and then nothing of it was read or written.
+    /// Opens the file; `None` where another process has it, and then nothing of it is left open.
     fn tried(&self, name: &str) -> Result<Option<Connection<FileStore<FileFrom<F>>>>, Error>
         ensures ok { IfOk result (λ file. IfSome file (λ file. FindsAs F.Start (Ok file))) }
         ensures err { IfErr result (λ error. IsTrue (is_open_error error)) }
@@ -141,7 +143,7 @@ fn cause(rt: &HostRuntime, name: &str, error: &Error) -> Result<String, AllocErr
 }
 
 impl<'a, F: Start + Copy> Opener<FileStore<FileFrom<F>>> for NamedFile<'a, F> {
-    // What the file holds. Which file that is, and why it can't be opened, are left open.
+    // What a file holds. Which file that is, and why it can't be opened, are left open.
     ghost opens = { λ file opened. FindsAs F.Start opened };
 
     fn open(self) -> Result<Connection<FileStore<FileFrom<F>>>, Error> {
@@ -172,7 +174,9 @@ pub(crate) fn is_database(rt: &HostRuntime, name: &str) -> io::Result<bool> {
 }
 
 /// Closes a file that was opened, and copies its log into it. Where that fails both stay, and what was kept stands in the log.
-pub(crate) fn close<D: Disk + Drop>(file: Option<Connection<FileStore<D>>>) -> Result<(), Error>
+pub(crate) fn close_file<D: Disk + Drop>(
+    file: Option<Connection<FileStore<D>>>,
+) -> Result<(), Error>
     ensures { Closes D.Disk file result }
 {
     let Some(file) = file else {

@@ -119,6 +119,7 @@ impl<'a> Text<'a> {
         input: R,
     ) -> Result<Text<'a>, Unread<'a>>
         ensures text { IfOk result (λ text. IfSome (R.remaining input) (λ all. text.bytes.items ≡ all)) }
+        ensures parts { IfOk result (λ text. text.parts.items ≡ []) }
         ensures unread { IfErr result (BlamesInput (R.remaining input)) }
     {
         let mut reader = Noted::new(input);

@@ -1,6 +1,6 @@
 //! Orders whose text can't be read.
 
-ghost use Rattle.std.specs.Prelude.{◌≡◌, ◌⊎◌, None};
+ghost use Rattle.std.specs.Prelude.{◌≡◌, ◌⊎◌, None, Some};
 ghost use Rattle.gasday_part.specs.Answers.{fault_answer, no_memory, one};
 ghost use Rattle.gasday_part.specs.Output.{WritesTold};
 ghost use Rattle.gasday_orders.specs.Orders.{RefusesFor, WritesUnread};
@@ -40,6 +40,7 @@ pub(crate) fn failed<'a, S: Alter + Drop>(
 ) -> Ended<'a, S>
     ensures file { result.ran.file ≡ None }
     ensures status { result.ran.status ≡ 2 }
+    ensures unread { result.unread ≡ unread.entry }
 {
     let ran = Ran {
         status: 2,
@@ -60,8 +61,9 @@ pub fn refuse<'a, S: Alter + Drop, W: Write>(
     unread: Unread<'a>,
     writer: &mut W,
 ) -> Ended<'a, S>
-    ensures { RefusesFor unread.entry result.ran.file
+    ensures refused { RefusesFor unread.entry result.ran.file
         (W.contents writer.old) (W.contents writer.new) result.ran.status }
+    ensures unread { result.unread ≡ Some unread.entry }
 {
     write_unread(rt.alloc(), &unread, writer);
     failed(rt, Some(unread))

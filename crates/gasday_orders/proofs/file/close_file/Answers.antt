@@ -1,5 +1,5 @@
 use Rattle.gasday_orders.proofs.ClosedFiles.{copied, failed}
-use Rattle.gasday_orders.proofs.file.close.Goals as goal
+use Rattle.gasday_orders.proofs.file.close_file.Goals as goal
 
 pub returns-in-Ok : goal.returns-in-Ok
 returns-in-Ok g c = copied g.D.Disk c.args.file c.in-Some.file c.in-Some.is c.in-Ok.files c.in-Ok.ensures.ok.0 c.in-Ok.ensures.ok.1 c.in-Ok.ensures.ok.2 c.in-Ok.ensures.copied
