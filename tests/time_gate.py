@@ -9,8 +9,8 @@ between two samples are seen up to the last one, so the sum is a little less tha
 
 The budget is in minutes of a processor as fast as where it was reckoned. A check that is always the same tells now and then how
 much slower this machine is, beside the gate (tests/yardstick.py), and the budget is that much longer here. A slow memory slows
-that check less than long proofs, so what these take beside what they took there (tests/proof_seconds.txt) is told too, by the
-median of the crates, whose proofs may have changed since.
+that check less than long proofs, so how much longer these took than in the table of docs/PERFORMANCE.md is told too, by the median
+of the crates, whose proofs may have changed since.
 """
 
 import os
@@ -29,10 +29,9 @@ SECONDS = 2
 BETWEEN = 300
 # Processor minutes for all proofs, tests and edits, and how much more fails the report.
 BUDGET, MORE = 255, 1.2
-# How many of them are for the book of a file, and 230 for all else: for these crates, and for its tests, which stand in gasday_tests
-# beside others.
+# Of these minutes 25 are for the book of a file: for these crates, and for its tests, which stand in gasday_tests beside others.
 LIVE, FOR_LIVE = ("gd_opening", "gd_serving", "gd_live", "gd_live_text", "gd_rounds", "gasday_live"), 25
-# What the proofs took where the budget was reckoned, in seconds, by crate.
+# What proofs took in the run that docs/PERFORMANCE.md has as a table, in seconds, by crate.
 MEASURED = Path(__file__).with_name("proof_seconds.txt")
 TICK = os.sysconf("SC_CLK_TCK")
 EDIT = re.compile(r"/(?:rt-edit|gasday-edits)[\w-]*")
@@ -110,7 +109,7 @@ class Pace:
 
 
 def proofs_beside(rows):
-    """How much longer proofs took than where the budget was reckoned, by the median, and of how many crates."""
+    """How much longer proofs took than in the table, by the median, and of how many crates."""
     measured = {name: int(taken) for name, taken in map(str.split, MEASURED.read_text().splitlines())}
     shares = [taken["proof"] / measured[crate] for crate, taken in rows if crate in measured and taken["proof"]]
     return statistics.median(shares or [1]), len(shares)
@@ -137,8 +136,8 @@ def main():
     print(f"of these the crates of a book's file: {live:.1f} min, {live / slower:.1f} of {FOR_LIVE}, "
           "which are for its tests in gasday_tests too")
     longer, count = proofs_beside(rows)
-    print(f"proofs took {longer:.2f} times as long as there, by the median of {count} crates: "
-          f"{whole / longer:.1f} min in all, {live / longer:.1f} for a book's file")
+    print(f"proofs took {longer:.2f} times as long as in the table, by the median of {count} crates; by that it is "
+          f"{whole / longer:.1f} min in all, and {live / longer:.1f} for a book's file")
     is_within = whole <= MORE * BUDGET * slower
     print(f"{int(is_within)} passed, {int(not is_within)} failed")
     return 0 if is_within else 1
