@@ -99,6 +99,13 @@ impl Low {
     }
 }
 
+/// The number behind it.
+pub fn next_of(low: &Low) -> u16
+    ensures { result ≡ low.now.number + 1 }
+{
+    low.next()
+}
+
 /// The same number.
 pub struct High {
     pub number: u8,
@@ -196,7 +203,7 @@ FILES = {
     "crates/lawful/specs/Doubled.antt": "use Rattle.std.specs.Prelude.{ℕ, ◌+◌}\n\nabbrev pub doubled : ℕ → ℕ\ndoubled n = n + n\n",
     "crates/lawful/specs/Tripled.antt": "use Rattle.std.specs.Prelude.{ℕ, ◌+◌}\nuse Rattle.lawful.specs.Doubled.{doubled}\n\n"
                                         "abbrev pub tripled : ℕ → ℕ\ntripled n = doubled n + n\n",
-    "crates/twice/src/lib.rt": "//! For a trial of must-fail edits.\n#![tactic(auto)]\n\nmod counting;\n\npub use counting::{High, Low, zeros};\n",
+    "crates/twice/src/lib.rt": "//! For a trial of must-fail edits.\n#![tactic(auto)]\n\nmod counting;\n\npub use counting::{High, Low, next_of, zeros};\n",
     "crates/twice/src/counting.rt": COUNTING,
     "crates/twice/proofs/counting/zeros/Invariants.antt": INVARIANT,
     "crates/tried/src/lib.rt": LIBRARY,
@@ -220,6 +227,7 @@ EDITS = {
     "twice/looks_at_the_next": ("src/counting.rt", "bytes[at] == 0", "bytes[at + 1] == 0", "refused: "),
     "twice/ones_in_place_of_zeros": ("src/counting.rt", "bytes[at] == 0", "bytes[at] == 1", "FAILED in round 2: the crate is still proved"),
     "twice/next_but_one": ("src/counting.rt", "u16::from(self.number) + 1", "u16::from(self.number) + 2", "refused: "),
+    "twice/nothing_behind_the_next": ("src/counting.rt", "    low.next()", "    low.next() + 0", "FAILED in round 2: the crate is still proved"),
     "twice/no_next": ("src/counting.rt", "u16::from(self.number) + 1", "u16::from(self.number)", "refused: "),
     "twice/half": ("src/counting.rt", "High { number: low.number }", "High { number: low.number / 2 }", "refused: "),
     "lawful/doubled_is_one_more": ("specs/Doubled.antt", "doubled n = n + n", "doubled n = n + 1", "refused: lawful::laws_again_"),
@@ -270,6 +278,12 @@ LINES = {
     "fn tried::next: not proved; it stands on `Rattle.tried.proofs.Sums.more`, which antt refuses": (False, False, True),
     "fn tried::next: no proof: it calls `tried::larger`, which is not proved": (False, True, True),
     "fn tried::next: no proof: it calls `tried::larger` and `tried::most`, which are not proved": (False, True, True),
+    "fn tried::next: not proved": (False, False, False),
+    "./proofs/next/Answers.antt:3:1: error: `returns`: expected type `1`\nfn tried::next: not proved": (True, False, False),
+    "./proofs/next/Answers.antt:3:1: error: `goal` has no field `returns`\nfn tried::next: not proved": (False, False, False),
+    "./proofs/next/Answers.antt:3:1: error: 1 declaration that depends on `more`, which was not admitted, was not checked: returns\n"
+    "fn tried::next: not proved": (False, False, False),
+    "./proofs/larger/Answers.antt:3:1: error: `returns`: expected type `1`\nfn tried::next: not proved": (False, False, False),
     "fn tried::next: rejected for a reason of its own": (False, False, False),
     "fn tried::larger: proved": (False, False, False),
 }

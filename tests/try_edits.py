@@ -6,9 +6,10 @@ that it turns. Those of a crate that stand in bodies are tried together, in one 
 since what is owed of a function rests on its own body and on the contracts of the others alone. Where several turn one
 function, the first turns that, and each further one a copy of it under another name, with copies of its proof's files. Where
 it has such files, a copy without any edit stands beside these, and only where no goal of that is refused what is told of the
-others counts. An edit that is told only to call a function that isn't proved, or whose function isn't copied, goes to the
-next round; what isn't clearly refused there is tried alone and from nothing, as `rt must-fail` does, and so is an edit that
-turns more than bodies. Edits of definitions for which must-fail/refused-by.md has a line `- EDIT: LAW`, with a law that must be
+others counts. That check doesn't go on past what is open, and only shows that edits are refused; the others, and those whose
+function isn't copied, go to a round that says why. An edit that is told there only to call a function that isn't proved goes to
+the next round; what isn't clearly refused is tried alone and from nothing, as `rt must-fail` does, and so is an edit that turns
+more than bodies. Edits of definitions for which must-fail/refused-by.md has a line `- EDIT: LAW`, with a law that must be
 refused, are tried in the same check, or in one of their own where the crate has none of bodies, each in copies of the definitions
 and of that law (copied_laws.py); what isn't refused there is tried by that law in the crate itself. What other edits of definitions
 turn is read anew over what a check of the crate as it stands has proved, or from nothing where there is one alone. A line that
@@ -48,12 +49,16 @@ CLAUSE = re.compile(r"\s*(requires|ensures|ghost)\b")
 GOAL = re.compile(r"note: src/\S+:\d+:\d+: it is not proved that ")
 TOLD = re.compile(r"fn (\S+): (.*)")
 PROVED = ("proved", "no holes")
+# (where the check doesn't go on past what is open, else with a reason)
+NOT_PROVED = "not proved"
 STANDS = re.compile(r"it stands on `Rattle\.")
 LEFT = re.compile(r"`search` did not prove ")
 CALLS = re.compile(r"it calls `[^;]*`, which (?:is|are) not proved|depends on a hole in ")
 UNTOLD = "could not tell"
 UNCOVERED = "the borrow checker does not cover"
 ENDED = re.compile(r"^only=\d+ ", re.M)
+# What it says of a file of a function's own proof that it refuses for more than a name which isn't there, or isn't admitted.
+OF_OWN = re.compile(r"^\./proofs/(\S+)/\w+\.antt:\d+:\d+: (error: (?!.*(?:has no field|is not in scope|has no `|not admitted|rejected, w)).*)", re.M)
 # What it says of a file in which something can't be read, or isn't proved as it stands there.
 UNREAD = re.compile(r"^(?:\./)?((?:src|specs|proofs)/[\w/]+\.\w+):\d+:\d+: error\b", re.M)
 # A line that names the function which must be refused for an edit of a definition.
@@ -68,6 +73,8 @@ SECONDS = 10
 
 
 RT = toolchain()
+# Goals are printed shortly, where the toolchain can: nobody reads them, and printing takes a fifth of a check.
+SHORT = [it for it in ("--short-goals",) if it in RT.rtlib.help_of("check")]
 
 
 @dataclasses.dataclass(frozen=True)
@@ -275,12 +282,12 @@ def of_one_round(edits):
 
 
 class Said:
-    """What a check said of each function: its line, the places of its goals that are left, and whether it was read; and the files in
-    which it found errors."""
+    """What a check said of each function: its line, the places of its goals that are left, and whether it was read; the files in
+    which it found errors, and those of them that are of functions' own proofs."""
 
     def __init__(self, output):
         self.ended, self.lines, self.goals = bool(ENDED.search(output)), {}, {}
-        self.unread = set(UNREAD.findall(output))
+        self.unread, self.of_own = set(UNREAD.findall(output)), dict(reversed(OF_OWN.findall(output)))
         notes = []
         for line in output.split("\n"):
             told = TOLD.match(line)
@@ -301,6 +308,10 @@ class Said:
             own = "`Rattle." + name.replace("::", ".").replace(".", ".proofs.", 1) + "."
             if goals or LEFT.search(line) or STANDS.search(line) and own in line:
                 return (goals or [line])[0].removeprefix("note: ")
+            # (a check that doesn't go on past what is open names no more than the file)
+            place = "/".join(name.split("::")[1:])
+            if line == NOT_PROVED and place in self.of_own:
+                return f"{place}: {self.of_own[place]}"
         return None
 
     def is_hidden(self, function):
@@ -353,13 +364,14 @@ class Room:
             place.write_text("\n".join([*text[:behind], *twin.text(whole), *text[behind:]]), encoding="utf-8")
             twin.lay(self.copy)
 
-    def check(self, edits, paths, keeps, twins=(), laws=None):
-        """What a check of these functions, with these edits and copies of functions, and of the copies of laws says."""
+    def check(self, edits, paths, keeps, twins=(), laws=None, goes_on=True):
+        """What a check of these functions, with these edits and copies of functions, and of the copies of laws says. One that goes on
+        past what is open says most of it, and takes a quarter longer."""
         self.lay(edits, twins)
         if laws:
             laws.lay(self.copy)
             paths = [*paths, *laws.functions()]
-        flags = [*ONE_JOB, "--allow-holes"] if paths else ONE_JOB
+        flags = [*ONE_JOB, *SHORT, *["--allow-holes"] * goes_on] if paths else ONE_JOB
         words = [RT.rtlib.RATTLE, "check", *self.crate.words(flags, keeps=False)]
         for path in paths or [""]:
             words += ["--only", path]
@@ -426,21 +438,43 @@ def verdict_of_twin(twin, unedited, said):
     return Verdict(twin.edit.name, True, refusal) if refusal else None
 
 
-def in_round(room, edits, is_last, twins=(), laws=None):
-    """Tries edits of different functions together, further ones of these functions in copies of them, and copies of laws. Gives
-    verdicts, and the edits that are hidden behind others."""
-    functions = [it for edit in edits for it in edit.functions] + [it.function for it in twins]
-    output = room.check(edits, [it.path for it in functions], not is_last, twins, laws)
-    said, copied, unedited = Said(output), [it for it in twins if it.edit], [it for it in twins if not it.edit]
-    if not said.ended and (twins or laws):
+def paths_of(edits, twins):
+    """The functions that these edits turn, and those copies of functions."""
+    return [it.path for edit in edits for it in edit.functions] + [it.function.path for it in twins]
+
+
+def of_twins(twins, said):
+    """What was said of the edits that copies of functions have, each with its verdict or None."""
+    unedited = [it for it in twins if not it.edit]
+    return [(it.edit, verdict_of_twin(it, unedited, said)) for it in twins if it.edit]
+
+
+def refused_at_once(room, edits, laws):
+    """Verdicts on those edits that are refused by a goal or an answer of their own function, or of a copy of it, in one check that
+    doesn't go on past what is open. It says nothing of the others. Copies of laws are checked beside them."""
+    if not edits:
+        return []
+    chosen, left = of_one_round(edits)
+    twins, left = with_twins(room.crate.folder, left)
+    said = Said(room.check(chosen, paths_of(chosen, twins), bool(left), twins, laws if laws.twins else None, goes_on=False))
+    if not said.ended:
+        return []
+    laws.said = said
+    refusals = [(it.name, next(filter(None, map(said.refusal, it.functions)), None)) for it in chosen]
+    return [Verdict(name, True, why) for name, why in refusals if why] + [it for _, it in of_twins(twins, said) if it]
+
+
+def in_round(room, edits, is_last, twins=()):
+    """Tries edits of different functions together, and further ones of these functions in copies of them. Gives verdicts, and the
+    edits that are hidden behind others."""
+    output = room.check(edits, paths_of(edits, twins), not is_last, twins)
+    said = Said(output)
+    if not said.ended and twins:
         verdicts, hidden = in_round(room, edits, False)
-        return verdicts, hidden + [it.edit for it in copied]
+        return verdicts, hidden + [it.edit for it in twins if it.edit]
     if not said.ended:
         return unended(room, edits, output, is_last)
-    if laws:
-        laws.said = said
-    found = [(it, verdict_of(room, it, said, len(edits) == 1)) for it in edits]
-    found += [(it.edit, verdict_of_twin(it, unedited, said)) for it in copied]
+    found = [(it, verdict_of(room, it, said, len(edits) == 1)) for it in edits] + of_twins(twins, said)
     return [verdict for _, verdict in found if verdict], [edit for edit, verdict in found if not verdict]
 
 
@@ -467,7 +501,8 @@ def refused_in_copy(laws, name):
     said = laws.said.lines.get(copy, "")
     is_proved = laws.said.lines.get(unturned, "").startswith(PROVED)
     shows = laws.said.ended and is_proved and laws.said.unread.isdisjoint(laws.files_for(name))
-    return Verdict(name, True, f"{copy}: {said}") if shows and (STANDS.search(said) or LEFT.search(said)) else None
+    is_refused = said == NOT_PROVED or STANDS.search(said) or LEFT.search(said)
+    return Verdict(name, True, f"{copy}: {said}") if shows and is_refused else None
 
 
 def by_named(room, edit):
@@ -487,7 +522,7 @@ def of_definitions(crate, edits, laws):
     one, and the others each by itself."""
     with Room(crate) as room:
         if not laws.said and len(laws.twins) > 1:
-            laws.said = Said(room.check([], [], keeps=False, laws=laws))
+            laws.said = Said(room.check([], [], keeps=False, laws=laws, goes_on=False))
         verdicts = [*filter(None, (refused_in_copy(laws, it) for it in laws.twins))] if laws.said else []
         decided = {it.edit for it in verdicts}
         found = [(edit, by_named(room, edit)) for edit in edits if edit.name not in decided]
@@ -512,20 +547,26 @@ def by_itself(crate, edits):
     return verdicts
 
 
+def undecided(edits, verdicts):
+    """Those of the edits that have none of the verdicts."""
+    decided = {it.edit for it in verdicts}
+    return [it for it in edits if it.name not in decided]
+
+
 def in_rounds(crate, edits, laws):
-    """Tries edits of bodies, in as many rounds as it takes, and copies of laws beside the first."""
-    verdicts, number = [], 0
+    """Tries edits of bodies, in as many rounds as it takes: first, beside copies of laws, in a check that only shows them refused."""
     with Room(crate) as room:
+        verdicts = refused_at_once(room, edits, laws)
+        edits, number = undecided(edits, verdicts), min(1, len(verdicts))
         while edits:
             number += 1
             chosen, left = of_one_round(edits)
             twins, left = with_twins(crate.folder, left)
-            found, hidden = in_round(room, chosen, not left, twins, laws if laws.twins and number == 1 else None)
+            found, hidden = in_round(room, chosen, not left, twins)
             # (what is hidden with nothing decided beside it would be so again)
             found += [alone(crate, it) for it in hidden] if not found else []
             verdicts += [dataclasses.replace(it, number=number) for it in found]
-            decided = {it.edit for it in found}
-            edits = left + [it for it in hidden if it.name not in decided]
+            edits = left + undecided(hidden, found)
     return verdicts
 
 
