@@ -283,6 +283,8 @@ LINES = {
     "./proofs/next/Answers.antt:3:1: error: `goal` has no field `returns`\nfn tried::next: not proved": (False, False, False),
     "./proofs/next/Answers.antt:3:1: error: 1 declaration that depends on `more`, which was not admitted, was not checked: returns\n"
     "fn tried::next: not proved": (False, False, False),
+    "./proofs/next/Answers.antt:3:1: error: `returns`: expected type `1`\n"
+    "fn tried::next: not proved; it calls `tried::larger`, which is not proved": (True, True, True),
     "./proofs/larger/Answers.antt:3:1: error: `returns`: expected type `1`\nfn tried::next: not proved": (False, False, False),
     "fn tried::next: rejected for a reason of its own": (False, False, False),
     "fn tried::larger: proved": (False, False, False),

@@ -308,9 +308,9 @@ class Said:
             own = "`Rattle." + name.replace("::", ".").replace(".", ".proofs.", 1) + "."
             if goals or LEFT.search(line) or STANDS.search(line) and own in line:
                 return (goals or [line])[0].removeprefix("note: ")
-            # (a check that doesn't go on past what is open names no more than the file)
+            # (a check that doesn't go on past what is open names no more than the file, and beside it what the function calls)
             place = "/".join(name.split("::")[1:])
-            if line == NOT_PROVED and place in self.of_own:
+            if line.startswith(NOT_PROVED) and not STANDS.search(line) and place in self.of_own:
                 return f"{place}: {self.of_own[place]}"
         return None
 
