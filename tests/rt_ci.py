@@ -8,7 +8,7 @@ stands on the one before, while processors idle at its end. So a check has the l
 chain is that waits for it beside the longest that is left, by the seconds that proofs took on one machine (proof_seconds.txt);
 where it is nearly as long the crate is checked with two jobs, and a program with four, which takes more processor time in all, and
 less by the clock; and both compilers build the program at the same time. Whether there is a contract that no call can meet, which
-takes an eighth of a proof's time and is no part of it, is left to the gate.
+takes time and is no part of a proof, is left to the gate.
 """
 
 import os

@@ -73,7 +73,7 @@ SECONDS = 10
 
 
 RT = toolchain()
-# Goals are printed shortly, where the toolchain can: nobody reads them, and printing takes a fifth of a check.
+# Goals are printed shortly, where the toolchain can: nobody reads them, and to print them takes time.
 SHORT = [it for it in ("--short-goals",) if it in RT.rtlib.help_of("check")]
 
 
@@ -366,7 +366,7 @@ class Room:
 
     def check(self, edits, paths, keeps, twins=(), laws=None, goes_on=True):
         """What a check of these functions, with these edits and copies of functions, and of the copies of laws says. One that goes on
-        past what is open says most of it, and takes a quarter longer."""
+        past what is open says most of it, and takes longer."""
         self.lay(edits, twins)
         if laws:
             laws.lay(self.copy)
