@@ -12,7 +12,7 @@ Holds what users are told of rows, faults, refusals, limits and commands against
 - the calls of a book (`gd_machine`: Names.call_name) and the rows that begin what they are told (the machine's replies) are those
   of the report, the desk, the importer and the trials of broken texts;
 - a limit that has two constants is the same in both, and messages and the help tell it;
-- each command that GUIDE calls, or that messages speak of by its words (`reading_of` in `crates/gasday_orders/src/told.rt`), is one of the
+- each command that GUIDE calls, or that messages speak of by its words (`reading_of` in `crates/gasday_files/src/told.rt`), is one of the
   program, and each option of a command stands in what the manual says of it by itself.
 
 What is made of the help and of the command line isn't compared here: tests/make_tables.py and tests/manual.py check it.
@@ -171,7 +171,7 @@ def told_commands() -> Iterator[str | None]:
     for word in sorted(set(re.findall(r"\bgasday ([a-z]+)", guide))):
         is_there = any(command.name == word for command in commands())
         yield None if is_there else f"docs/GUIDE.md calls gasday {word}, which is no command"
-    named = text_of("crates/gasday_orders/src/told.rt").partition("fn reading_of")[2].partition("\n}")[0]
+    named = text_of("crates/gasday_files/src/told.rt").partition("fn reading_of")[2].partition("\n}")[0]
     ways = [f"{way.words} " for command in commands() for way in forms(command)]
     for words in re.findall(r'Some\(\("([a-z ]+)", ', named):
         is_there = any(way.startswith(f"{words} ") for way in ways)

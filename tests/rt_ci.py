@@ -7,8 +7,9 @@ With --first-build the order of its work is another: who builds the program wait
 stands on the one before, while processors idle at its end. So a check has the lower a priority when it begins, the shorter the
 chain is that waits for it beside the longest that is left, by the seconds that proofs took on one machine (proof_seconds.txt);
 where it is nearly as long the crate is checked with two jobs, and a program with four, which takes more processor time in all, and
-less by the clock; and both compilers build the program at the same time. Whether there is a contract that no call can meet, which
-takes time and is no part of a proof, is left to the gate.
+less by the clock. Two things are left to the gate: whether there is a contract that no call can meet, which takes time and is no part
+of a proof, and the program of the other compiler. So one command proves the program and compiles it, and the gate takes nothing of
+what a first build keeps, though that takes what a gate has kept.
 """
 
 import os
@@ -31,6 +32,8 @@ NEARLY = 0.95
 STEEP, LOWEST = 0.4, 15
 # What asks a check to look for contracts that no call can meet.
 EMPTY_CONTRACTS = "--empty-contracts"
+# What the name ends in of what a first build keeps.
+FIRST = "-first"
 
 
 def seconds(tasks):
@@ -67,12 +70,34 @@ def at_priority(lower, call, *given):
         return pool.submit(lowered).result()
 
 
-class Ordered:
-    """The toolchain's own steps in this order of work."""
+class FirstBuild:
+    """The toolchain's own steps in this order of work, and without what is left to the gate."""
 
     def __init__(self, rt):
-        self.pool, self.in_lanes, self.compile_by = ThreadPoolExecutor(1), rt.in_lanes, rt.Crate.compile_by
-        self.others = {}
+        self.rt, self.in_lanes = rt, rt.in_lanes
+        rt.in_lanes = self.run_all
+        # (where what a first build keeps can't be told apart, nothing is left to the gate)
+        if hasattr(getattr(rt, "Kept", None), "place"):
+            self.leave_to_the_gate(rt.Kept.place, rt.rtlib.help_of, rt.Crate.ci)
+
+    def leave_to_the_gate(self, place, asked, ci):
+        """Has these steps of the toolchain done without what is left to the gate."""
+        def place_of(kept, *given):
+            """Where the work on a crate is kept: a gate's, where one has kept it, and else a first build's own, which no gate looks at."""
+            whole = place(kept, *given)
+            return whole if os.path.isdir(whole) else whole + FIRST
+
+        def build(crate, flags, tests):
+            """Proves a crate, and what is a program by the command that compiles it, which reads all below it once."""
+            if tests or not crate.is_program:
+                return ci(crate, flags, tests)
+            to, words = f"out/{crate.name}", crate.words(flags, keeps=False)
+            words += ["--toolchain", f"{self.rt.KIT}/toolchain", "--backend", "llvm", "-o", f"{to}.o"]
+            return crate.prove(["build", *words]) or crate.link(f"{to}.o", to)
+
+        self.rt.Kept.place, self.rt.Crate.ci = place_of, build
+        # (a check is asked for that only where its help names it)
+        self.rt.rtlib.help_of = lambda verb: asked(verb).replace(EMPTY_CONTRACTS, "")
 
     def run_all(self, tasks):
         """All tasks, those that long chains wait for before the others."""
@@ -92,23 +117,12 @@ class Ordered:
 
         return self.in_lanes({key: ordered(key, task) for key, task in tasks.items()})
 
-    def compile_both(self, crate, backend, words, to):
-        """The toolchain asks for LLVM's program, and behind that for the other compiler's, which is begun with the first."""
-        if backend == "llvm":
-            self.others[crate.name] = self.pool.submit(self.compile_by, crate, "rattle", words, to)
-            return self.compile_by(crate, backend, words, to)
-        return self.others[crate.name].result()
-
 
 def main():
     rt = toolchain()
     rt.Crate.stamp = remembered(rt.Crate.stamp)
     if "--first-build" in sys.argv:
-        ordered, asked = Ordered(rt), rt.rtlib.help_of
-        rt.in_lanes = ordered.run_all
-        rt.Crate.compile_by = lambda crate, *given: ordered.compile_both(crate, *given)
-        # (a check is asked for that only where its help names it)
-        rt.rtlib.help_of = lambda verb: asked(verb).replace(EMPTY_CONTRACTS, "")
+        FirstBuild(rt)
     return rt.where_disk_lasts(rt.ci, False)
 
 

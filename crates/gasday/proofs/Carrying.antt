@@ -4,8 +4,8 @@ use Rattle.sqlite_trees.specs.declared.store.Store.{Ghosts}
 use Rattle.sqlite.specs.Held.{Held}
 use Rattle.sqlite.specs.declared.error.Error.{Error}
 use Rattle.gasday_words.specs.Ordered.{Ordered, Text, CheckAnswer, Office, ArchivedDay, LiveDay, BookText, Audit, AuditEach, Question, Carry, Migrate}
-use Rattle.gasday_orders.specs.Orders.{Refuses}
-use Rattle.gasday_orders.specs.Texts.{IsUnread, ReadsText}
+use Rattle.gasday_files.specs.Refusals.{Refuses}
+use Rattle.gasday_files.specs.Texts.{IsUnread, ReadsText}
 use Rattle.gasday.specs.Carried.{CarriesRequest, CarriesText, IsCarriedOut}
 
 module _ {S : Type 0} (g : Ghosts S) (gives : Result (Held S) Error → Type 0) (input : Option (List ℕ)) (names : List (List ℕ)) (left : Option (Held S)) (old new : Option (List ℕ)) (status : ℕ) where

@@ -11,12 +11,13 @@ use Rattle.gasday_part.specs.Answers.{Told}
 use Rattle.gasday_part.specs.Output.{WritesTold}
 use Rattle.gasday_archive.specs.Orders.{Answers, IsAnswered}
 use Rattle.gasday_archive.specs.Runs.{OrNoMemory, TellsOpened}
+use Rattle.gasday_files.specs.Closing.{Exits}
+use Rattle.gasday_files.specs.Refusals.{Refuses}
+use Rattle.gasday_files.specs.Texts.{IsTextOf, IsUnread, ReadsText}
+use Rattle.gasday_files.specs.declared.input.Text.{Text as Joined}
 use Rattle.gasday_orders.specs.Audited.{TellsAudit}
-use Rattle.gasday_orders.specs.Closing.{Exits}
 use Rattle.gasday_orders.specs.Files.{PrintsFile}
-use Rattle.gasday_orders.specs.Orders.{Asks, Checks, Refuses, Serves}
-use Rattle.gasday_orders.specs.Texts.{IsTextOf, IsUnread, ReadsText}
-use Rattle.gasday_orders.specs.declared.input.Text.{Text as Joined}
+use Rattle.gasday_orders.specs.Orders.{Asks, Checks, Serves}
 use Rattle.gasday_office.specs.Offices.{AnswersOfficeBytes}
 
 -- an office's answer to the bytes of a text, a strict one's or any; no archive comes back

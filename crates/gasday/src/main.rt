@@ -4,16 +4,17 @@
 
 ghost use Rattle.gasday_words.specs.Ordered.{requested, seen};
 ghost use Rattle.gasday_archive.specs.Runs.{OrNoMemory, Tells};
-ghost use Rattle.gasday_orders.specs.Noting.{noted};
-ghost use Rattle.gasday_orders.specs.Opening.{FindsAs, disk_of};
+ghost use Rattle.gasday_files.specs.Noting.{noted};
+ghost use Rattle.gasday_files.specs.Opening.{FindsAs, disk_of};
 ghost use Rattle.gasday.specs.Carried.{AnswersOrder, AnswersSlots, CarriesOut, CarriesRequest, IsCarriedOut, RunsOn};
 
 use gasday_archive::{Opener, Outcome, answer_to};
-use gasday_office::answer_office;
-use gasday_orders::{
-    AsFound, CopiedFile, Course, Ended, NamedFile, Noted, Ran, Text, ask, check, end, print,
-    refuse, serve, tell_audit, text_of, unwritable,
+use gasday_files::{
+    AsFound, CopiedFile, Course, Ended, NamedFile, Noted, Ran, Text, end, refuse, text_of,
+    unwritable,
 };
+use gasday_office::answer_office;
+use gasday_orders::{ask, check, print, serve, tell_audit};
 use gasday_part::{Answer, last_of, summary_in, write_answer};
 use gasday_words::{Order, Request, UsageFault, request_of};
 use gd_replies::Reply;

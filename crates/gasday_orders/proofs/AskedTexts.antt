@@ -3,10 +3,10 @@ use Rattle.std.proofs.Common.{◌≡◌, ◌≢◌, ◌≤◌, ℕ, Bor, List, [
 use Rattle.sqlite_trees.specs.declared.store.Store.{Ghosts}
 use Rattle.sqlite.specs.Held.{Held}
 use Rattle.sqlite.specs.declared.error.Error.{Error}
+use Rattle.gasday_files.specs.Texts.{IsMadeOf}
+use Rattle.gasday_files.specs.declared.input.Text.{Text}
 use Rattle.gasday_orders.specs.Files.{ServesFile}
 use Rattle.gasday_orders.specs.Orders.{Serves}
-use Rattle.gasday_orders.specs.Texts.{IsMadeOf}
-use Rattle.gasday_orders.specs.declared.input.Text.{Text}
 
 -- of the files of these names, which are those
 pub named : (names of : List (Bor (List ℕ))) (text : Text) → names ≡ of → IsMadeOf (map (λ n. n.now) names) text → IsMadeOf (map (λ n. n.now) of) text

@@ -1,5 +1,4 @@
 mod AskedTexts
 mod Auditing
-mod ClosedFiles
 mod Files
 mod Writing

@@ -4,47 +4,15 @@ use Rattle.sqlite_trees.specs.declared.store.Store.{Ghosts}
 use Rattle.sqlite.specs.Held.{Held}
 use Rattle.sqlite.specs.declared.error.Error.{Error}
 use Rattle.gd_messages.specs.declared.text.Part.{Part}
-use Rattle.gasday_words.specs.Ordered.{Ordered, ArchivedDay, LiveDay, BookText, Audit, AuditEach, Question, Carry, Migrate}
-use Rattle.gasday_part.specs.Answers.{fault_answer, no_memory, one}
+use Rattle.gasday_words.specs.Ordered.{Ordered}
 use Rattle.gasday_part.specs.Output.{WritesTold}
 use Rattle.gasday_part.specs.Inquiries.{AsksText}
 use Rattle.gasday_part.specs.declared.inquiry.Inquiry.{Inquiry}
-use Rattle.gasday_orders.specs.declared.input.Text.{Text}
-use Rattle.gasday_orders.specs.declared.input.Unread.{Unread}
-use Rattle.gasday_orders.specs.declared.input.Unread.TheVariants as unread
+use Rattle.gasday_files.specs.declared.input.Text.{Text}
+use Rattle.gasday_files.specs.Refusals.{Refuses}
+use Rattle.gasday_files.specs.Texts.{BlamesFile, IsMadeOf, standard_input}
 use Rattle.gasday_orders.specs.Checked.{TellsAnswer}
 use Rattle.gasday_orders.specs.Files.{AsksFile, AsksFor, IsInquiry, ServesFile}
-use Rattle.gasday_orders.specs.Texts.{BlamesFile, IsMadeOf}
-
--- the order only reads the file of this name
-abbrev pub OnlyReads : Ordered → List ℕ → Type 0
-OnlyReads (Audit file) name = name ≡ file
-OnlyReads (AuditEach file) name = name ≡ file
-OnlyReads (BookText file) name = name ≡ file
-OnlyReads (Question file cycle round) name = name ≡ file
-OnlyReads (Carry file) name = name ≡ file
-OnlyReads order name = ⊥
-
--- the order is on the file of this name, which it reads or writes
-abbrev pub IsOn : Ordered → List ℕ → Type 0
-IsOn (ArchivedDay file strict) name = name ≡ file
-IsOn (LiveDay file) name = name ≡ file
-IsOn (Migrate file) name = name ≡ file
-IsOn order name = OnlyReads order name
-
--- of standard input that gives no text the fault is written, and nothing of a file that can't be read
-abbrev pub WritesUnread : Unread → Option (List ℕ) → Option (List ℕ) → Type 0
-WritesUnread (unread.File name error) before behind = behind ≡ before
-WritesUnread (unread.Standard fault error) before behind =
-    (status : ℕ) × WritesTold (λ a. (a ≡ fault_answer fault) ⊎ (a ≡ one no_memory 2)) before behind status
-
--- Where no text can be read for this reason no file comes back, the status is 2, and that is written.
-abbrev pub RefusesFor : {S : Type 0} → Unread → Option (Held S) → Option (List ℕ) → Option (List ℕ) → ℕ → Type 0
-RefusesFor why left before behind status = (left ≡ None) × (status ≡ 2) × WritesUnread why before behind
-
--- no text can be read, for a reason of this kind
-abbrev pub Refuses : {S : Type 0} → (Unread → Type 0) → Option (Held S) → Option (List ℕ) → Option (List ℕ) → ℕ → Type 0
-Refuses blames left before behind status = (why : Unread) × blames why × RefusesFor why left before behind status
 
 -- where the second file begins, in a text of so many bytes
 abbrev pub begun_by : ℕ → Option Part → ℕ
@@ -75,10 +43,11 @@ module _ {S : Type 0} (g : Ghosts S) (gives : Result (Held S) Error → Type 0) 
       ⊎ ((names ≢ []) × (text : Text) × IsMadeOf names text × ServesFile g gives (Some text.bytes.items) left before behind status)
       ⊎ Refuses (BlamesFile names) left before behind status
 
-  -- this is asked of the book of the file that the opener gives, or of that of the text of this name
+  -- This is asked of the book of the file that the opener gives, which standard input's name never is, or of that of the text of this
+  -- name.
   abbrev pub AsksThis : Inquiry → List ℕ → Option (Held S) → Option (List ℕ) → Option (List ℕ) → ℕ → Type 0
   AsksThis asked name left before behind status =
-      AsksFile g gives asked left before behind status
+      ((name ≢ standard_input) × AsksFile g gives asked left before behind status)
       ⊎ ((text : Text) × IsMadeOf (name ∷ []) text × (left ≡ None) × AsksText text.bytes.items asked before behind status)
 
   -- What an order asks of the file of this name is asked, or that can't be read. Of one that asks nothing nothing is written, with

@@ -6,9 +6,7 @@ ghost use Rattle.gasday_part.specs.Output.{WritesTold};
 ghost use Rattle.gasday_orders.specs.Checked.{TellsAnswer};
 ghost use Rattle.gasday_orders.specs.Orders.{Checks, ChecksText, first_length};
 
-use crate::input::Text;
-use crate::ran::{Ended, Ran};
-use crate::refusing::refuse;
+use gasday_files::{Ended, Ran, Text, refuse};
 use gasday_part::{Written, check_answer, write_rows};
 use gasday_words::Request;
 use sqlite::Alter;

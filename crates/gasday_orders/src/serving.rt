@@ -5,11 +5,9 @@ ghost use Rattle.gasday_orders.specs.Files.{ServesFile};
 ghost use Rattle.gasday_orders.specs.Orders.{Serves};
 
 use crate::book::serve_over;
-use crate::input::Text;
-use crate::ran::{Ended, Ran};
-use crate::refusing::refuse;
-use crate::told::{ClockWitness, tell_waiting};
+use crate::witness::ClockWitness;
 use gasday_archive::Opener;
+use gasday_files::{Ended, Ran, Text, refuse, tell_waiting};
 use gasday_words::Request;
 use gd_replies::Reply;
 use gd_text_part::TextFault;

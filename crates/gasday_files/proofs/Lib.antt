@@ -1,0 +1,2 @@
+mod ClosedFiles
+mod Writing

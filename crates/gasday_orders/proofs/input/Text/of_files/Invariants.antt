@@ -1,7 +1,0 @@
-use Rattle.std.specs.Prelude.{map, take}
-use Rattle.gasday_orders.specs.Texts.{IsMadeOf}
-use Rattle.gasday_orders.proofs.input.Text.of_files.Given as goal
-
--- the files so far
-abbrev pub invariant-names : goal.invariant-names
-invariant-names l = IsMadeOf (map (λ n. n.now) (take l.name-index l.fn.names)) l.text
