@@ -8,7 +8,7 @@ ghost use Rattle.gasday_files.specs.Noting.{noted};
 ghost use Rattle.gasday_files.specs.Opening.{FindsAs, disk_of};
 ghost use Rattle.gasday.specs.Carried.{AnswersOrder, AnswersSlots, CarriesOut, CarriesRequest, IsCarriedOut, RunsOn};
 
-use gasday_archive::{Opener, Outcome, answer_to};
+use gasday_archive::{Outcome, answer_to};
 use gasday_files::{
     AsFound, CopiedFile, Course, Ended, NamedFile, Noted, Ran, Text, end, refuse, text_of,
     unwritable,
@@ -17,6 +17,7 @@ use gasday_office::answer_office;
 use gasday_orders::{ask, check, print, serve, tell_audit};
 use gasday_part::{Answer, last_of, summary_in, write_answer};
 use gasday_words::{Order, Request, UsageFault, request_of};
+use gd_archive::Opener;
 use gd_replies::Reply;
 use sqlite::{Alter, FileStore};
 use sqlite_disk::{Disk, Start};

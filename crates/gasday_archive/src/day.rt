@@ -11,9 +11,9 @@ ghost use Rattle.gasday_part.specs.Answers.{no_memory};
 ghost use Rattle.gasday_archive.specs.Runs as spec;
 
 use crate::answer::of_store_fault;
-use crate::keeps::{Repeated, keep_published};
+use crate::keeps::keep_published;
 use gasday_part::{Answer, course_status};
-use gd_archive::make;
+use gd_archive::{Repeated, make};
 use gd_board::Board;
 use gd_book::Book;
 use gd_course::run;

@@ -4,9 +4,10 @@ ghost use Rattle.gasday_words.specs.Ordered.{seen};
 ghost use Rattle.gasday_archive.specs.Orders as orders;
 ghost use Rattle.gasday_archive.specs.Runs.{OrNoMemory, Tells};
 
-use crate::opened::{Opener, Outcome, tell_day, tell_migration};
+use crate::opened::{Outcome, tell_day, tell_migration};
 use gasday_part::answer_of;
 use gasday_words::{Command, Order};
+use gd_archive::Opener;
 use sqlite::Alter;
 use std::alloc::Global;
 use std::thread::Threads;

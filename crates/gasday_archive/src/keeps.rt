@@ -8,7 +8,7 @@ ghost use Rattle.gd_board.specs.Known.{StaysKnown};
 ghost use Rattle.gd_book.specs.Postings.{AllPosted};
 ghost use Rattle.gasday_archive.specs.Keeping as spec;
 
-use gd_archive::{KeepFault, Repeat, StoreFault, compare, keep};
+use gd_archive::{KeepFault, Repeat, Repeated, StoreFault, compare, keep};
 use gd_board::{Board, BoardNote, Posting};
 use gd_book::{Book, Event, Reply as BookReply};
 use gd_replies::Reply;
@@ -41,13 +41,6 @@ pub(crate) enum KeepAnswer {
     Before(Option<Repeat>),
     /// The archive refuses.
     Refused(StoreFault),
-}
-
-/// A posting of which the archive had one of the same book and cycle: how that goes with it, where it could be read.
-#[derive(Clone, Copy, Debug)]
-pub struct Repeated {
-    pub cycle: CycleNo,
-    pub found: Option<Repeat>,
 }
 
 /// How what is kept goes with a posting, where it can be read.

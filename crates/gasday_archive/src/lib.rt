@@ -9,5 +9,4 @@ mod opened;
 
 pub use answer::of_no_store;
 pub use engine::answer_to;
-pub use keeps::Repeated;
-pub use opened::{Opener, Outcome, audit_archive, audit_postings};
+pub use opened::{Outcome, audit_archive, audit_postings};

@@ -10,29 +10,14 @@ ghost use Rattle.gasday_archive.specs.Runs as spec;
 
 use crate::answer::{of_audit, of_each, of_migration, of_no_store, of_store_fault};
 use crate::day::tell_in_archive;
-use crate::keeps::Repeated;
 use gasday_part::{Answer, calendar_of, of_fault, of_no_calendar};
-use gd_archive::{audit, audit_each, migrate};
+use gd_archive::{Opener, Repeated, audit, audit_each, migrate};
 use gd_book::Book;
 use gd_day::{DayText, day_text_of};
 use gd_text_part::{Form, Row, rows_in};
 use sqlite::{Alter, Connection, Error};
 use std::alloc::{AllocError, Global};
 use std::thread::Threads;
-
-/// Who opens the archive of an order.
-pub trait Opener<S: Alter + Drop>: Drop {
-    ghost use Rattle.std.specs.Prelude.{Result};
-    ghost use Rattle.sqlite.specs.Held.{Held};
-    ghost use Rattle.sqlite.specs.declared.error.Error.{Error as AnError};
-
-    // What it may give.
-    ghost opens: { Self → Result (Held S) AnError → Type 0 };
-
-    /// The archive, or why it can't be opened.
-    fn open(self) -> Result<Connection<S>, Error>
-        ensures { opens self result };
-}
 
 /// What is told, and the archive that was opened, as it is left, to be closed. The only error is want of memory.
 #[derive(Drop)]

@@ -10,8 +10,8 @@ ghost use Rattle.gasday_files.specs.Named.{OnlyReads};
 
 use crate::file::is_database;
 use crate::told::tell_cause;
-use gasday_archive::Opener;
 use gasday_words::Order;
+use gd_archive::Opener;
 use sqlite::{Connection, Error, ErrorCode, FileStore, Files, Options, Unknown};
 use sqlite_disk::{Disk, Memory};
 use sqlite_std_file::OpenError;

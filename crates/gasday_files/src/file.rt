@@ -8,8 +8,8 @@ ghost use Rattle.gasday_files.specs.Opening.{FindsAs};
 ghost use Rattle.gasday_files.specs.Named.{IsOn};
 
 use crate::told::{tell_cause, tell_unopened};
-use gasday_archive::Opener;
 use gasday_words::Order;
+use gd_archive::Opener;
 use sqlite::{Connection, Error, ErrorCode, FileStore, Unknown};
 use sqlite_disk::{Disk, Start};
 use sqlite_std_file::FileFrom;

@@ -1,9 +1,8 @@
 //! What people are told on standard error, beside the rows of an answer.
 
 use crate::input::{Text, Unread};
-use gasday_archive::Repeated;
 use gasday_words::{Command, Order};
-use gd_archive::Repeat;
+use gd_archive::{Repeat, Repeated};
 use gd_messages::{Count, Source, message_of};
 use gd_replies::Reply;
 use gd_rounds::Summary;

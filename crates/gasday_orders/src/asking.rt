@@ -7,10 +7,10 @@ ghost use Rattle.gasday_orders.specs.Files.{AsksFile, PrintsFile};
 ghost use Rattle.gasday_orders.specs.Orders.{Asks};
 
 use crate::book::{ask_over, inquiry_of, print_over};
-use gasday_archive::Opener;
 use gasday_files::{Ended, Ran, Text, failed, named_by, refuse};
 use gasday_part::{Inquiry, Written, ask_text};
 use gasday_words::Order;
+use gd_archive::Opener;
 use sqlite::Alter;
 use std::io::Write;
 use std::thread::Threads;

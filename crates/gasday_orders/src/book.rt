@@ -4,11 +4,11 @@ ghost use Rattle.std.specs.Prelude.{◌≡◌, ◌≢◌, IfSome};
 ghost use Rattle.gasday_words.specs.Ordered.{seen};
 ghost use Rattle.gasday_orders.specs.Files.{AsksFile, AsksFor, IsInquiry, PrintsFile, ServesFile, TellsUnopened, unopened_row as row_of};
 
-use gasday_archive::Opener;
 use gasday_files::Ran;
 use gasday_live::{Witness, ask_book, print_book, serve_book};
 use gasday_part::{Inquiry, Written, last_of, of_one, write_answer};
 use gasday_words::Order;
+use gd_archive::Opener;
 use gd_replies::Reply;
 use gd_units::{CycleNo, Round};
 use sqlite::{Alter, Error, ErrorCode};

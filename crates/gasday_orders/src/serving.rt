@@ -6,9 +6,9 @@ ghost use Rattle.gasday_orders.specs.Orders.{Serves};
 
 use crate::book::serve_over;
 use crate::witness::ClockWitness;
-use gasday_archive::Opener;
 use gasday_files::{Ended, Ran, Text, refuse, tell_waiting};
 use gasday_words::Request;
+use gd_archive::Opener;
 use gd_replies::Reply;
 use gd_text_part::TextFault;
 use sqlite::Alter;

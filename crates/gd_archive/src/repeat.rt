@@ -12,6 +12,7 @@ use crate::keeping::{cause_of, told_in};
 use gd_archive_store::{StoreFault, find};
 use gd_board::Posting;
 use gd_body::{body_of, same_posting};
+use gd_units::CycleNo;
 use sha2::{Digest, Sha256};
 use sqlite::{Alter, Connection, Error, Row};
 use std::alloc::Global;
@@ -23,6 +24,13 @@ pub enum Repeat {
     Same,
     /// It is another one. The SHA-256 (FIPS 180-4) of the body that is kept, and of the one that this posting would have.
     Other { kept: [u8; 32], published: [u8; 32] },
+}
+
+/// A posting of which the archive had one of the same book and cycle: how that goes with it, where it could be read.
+#[derive(Clone, Copy, Debug)]
+pub struct Repeated {
+    pub cycle: CycleNo,
+    pub found: Option<Repeat>,
 }
 
 /// Whether a row of round, body and rule keeps this very posting. It errs where the row is none of an archive, or memory is wanting.
