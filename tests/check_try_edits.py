@@ -281,6 +281,8 @@ LINES = {
     "fn tried::next: not proved": (False, False, False),
     "./proofs/next/Answers.antt:3:1: error: `returns`: expected type `1`\nfn tried::next: not proved": (True, False, False),
     "./proofs/next/Answers.antt:3:1: error: `goal` has no field `returns`\nfn tried::next: not proved": (False, False, False),
+    "./proofs/next/Answers.antt:3:1: error: `returns`: record `a.long.name` (nearest: .b)\n  has no field `c`\nfn tried::next: not proved": (False, False, False),
+    "./proofs/next/Answers.antt:3:1: error: `returns`: the two types differ\n  (found)\nfn tried::next: not proved": (True, False, False),
     "./proofs/next/Answers.antt:3:1: error: 1 declaration that depends on `more`, which was not admitted, was not checked: returns\n"
     "fn tried::next: not proved": (False, False, False),
     "./proofs/next/Answers.antt:3:1: error: `returns`: expected type `1`\n"

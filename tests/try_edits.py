@@ -59,6 +59,8 @@ UNCOVERED = "the borrow checker does not cover"
 ENDED = re.compile(r"^only=\d+ ", re.M)
 # What it says of a file of a function's own proof that it refuses for more than a name which isn't there, or isn't admitted.
 OF_OWN = re.compile(r"^\./proofs/(\S+)/\w+\.antt:\d+:\d+: (error: (?!.*(?:has no field|is not in scope|has no `|not admitted|rejected, w)).*)", re.M)
+# Where what it says goes on in the next line.
+WRAPPED = re.compile(r"\n  (?! )")
 # What it says of a file in which something can't be read, or isn't proved as it stands there.
 UNREAD = re.compile(r"^(?:\./)?((?:src|specs|proofs)/[\w/]+\.\w+):\d+:\d+: error\b", re.M)
 # A line that names the function which must be refused for an edit of a definition.
@@ -287,7 +289,7 @@ class Said:
 
     def __init__(self, output):
         self.ended, self.lines, self.goals = bool(ENDED.search(output)), {}, {}
-        self.unread, self.of_own = set(UNREAD.findall(output)), dict(reversed(OF_OWN.findall(output)))
+        self.unread, self.of_own = set(UNREAD.findall(output)), dict(reversed(OF_OWN.findall(WRAPPED.sub(" ", output))))
         notes = []
         for line in output.split("\n"):
             told = TOLD.match(line)
