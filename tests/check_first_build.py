@@ -38,8 +38,6 @@ def told(folder, *words):
 
 def main():
     with tempfile.TemporaryDirectory(prefix="gasday-first-build-") as folder:
-        # (rt runs what it built as nobody)
-        Path(folder).chmod(0o711)
         source = Path(folder, "crates", "trial", "src")
         source.mkdir(parents=True)
         # (rt ci looks for the top of a repository)
