@@ -4,10 +4,11 @@
 Tries `tests/try_edits.py` on crates that are made here: an edit that turns nothing, the same hidden behind another, one that is
 hidden, one that doesn't compile, one that can't be applied, two of definitions; several in one function, of which one turns
 nothing, where that is copied and where it isn't; several of definitions that name laws, of which one turns nothing and two can't
-be read, where the laws are copied and where they aren't; and looks at what it makes of lines that a check may say. The last line
-is 'N passed, M failed', and the exit status is 0 only where none failed.
+be read, where the laws are copied and where they aren't; and looks at what it makes of lines that a check may say, and of forms in
+which proofs name their functions. The last line is 'N passed, M failed', and the exit status is 0 only where none failed.
 """
 
+import shutil
 import subprocess
 import sys
 import tempfile
@@ -84,6 +85,20 @@ pub fn zeros(bytes: &[u8]) -> usize
     count
 }
 
+/// How many of the bytes are 1: at most all.
+#[tactic(auto)]
+pub fn ones(bytes: &[u8]) -> usize
+    ensures { result ≤ length bytes.now }
+{
+    let mut many = 0;
+    for at in 0..bytes.len() {
+        if bytes[at] == 1 {
+            many += 1;
+        }
+    }
+    many
+}
+
 /// A number.
 #[derive(Drop)]
 pub struct Low {
@@ -100,7 +115,7 @@ impl Low {
 }
 
 /// The number behind it.
-pub fn next_of(low: &Low) -> u16
+pub fn next(low: &Low) -> u16
     ensures { result ≡ low.now.number + 1 }
 {
     low.next()
@@ -127,6 +142,15 @@ use Rattle.twice.proofs.counting.zeros.Given as goal
 
 abbrev pub invariant-loop-at : goal.invariant-loop-at
 invariant-loop-at l = l.count ≤ l.at
+"""
+# A proof that names its function in a form that a copy's proof doesn't have: one more copy, without an edit, has to be proved.
+NAMED_OTHERWISE = """\
+-- As of counting.ones.
+use Rattle.std.proofs.Common.{◌≤◌}
+use Rattle.twice.proofs.counting.ones.Given as goal
+
+abbrev pub invariant-loop-at : goal.invariant-loop-at
+invariant-loop-at l = l.many ≤ l.at
 """
 LAWS = """\
 //! What follows from the definitions.
@@ -203,8 +227,9 @@ FILES = {
     "crates/lawful/specs/Doubled.antt": "use Rattle.std.specs.Prelude.{ℕ, ◌+◌}\n\nabbrev pub doubled : ℕ → ℕ\ndoubled n = n + n\n",
     "crates/lawful/specs/Tripled.antt": "use Rattle.std.specs.Prelude.{ℕ, ◌+◌}\nuse Rattle.lawful.specs.Doubled.{doubled}\n\n"
                                         "abbrev pub tripled : ℕ → ℕ\ntripled n = doubled n + n\n",
-    "crates/twice/src/lib.rt": "//! For a trial of must-fail edits.\n#![tactic(auto)]\n\nmod counting;\n\npub use counting::{High, Low, next_of, zeros};\n",
+    "crates/twice/src/lib.rt": "//! For a trial of must-fail edits.\n#![tactic(auto)]\n\nmod counting;\n\npub use counting::{High, Low, next, ones, zeros};\n",
     "crates/twice/src/counting.rt": COUNTING,
+    "crates/twice/proofs/counting/ones/Invariants.antt": NAMED_OTHERWISE,
     "crates/twice/proofs/counting/zeros/Invariants.antt": INVARIANT,
     "crates/tried/src/lib.rt": LIBRARY,
     "crates/tried/specs/Lib.antt": "pub mod Sums\n",
@@ -226,8 +251,11 @@ EDITS = {
     "twice/counts_twice": ("src/counting.rt", "            count += 1;", "            count += 2;", "refused: "),
     "twice/looks_at_the_next": ("src/counting.rt", "bytes[at] == 0", "bytes[at + 1] == 0", "refused: "),
     "twice/ones_in_place_of_zeros": ("src/counting.rt", "bytes[at] == 0", "bytes[at] == 1", "FAILED in round 2: the crate is still proved"),
+    "twice/one_before_any": ("src/counting.rt", "    let mut many = 0;", "    let mut many = 1;", "refused: "),
+    "twice/each_one_is_two": ("src/counting.rt", "            many += 1;", "            many += 2;", "refused: "),
     "twice/next_but_one": ("src/counting.rt", "u16::from(self.number) + 1", "u16::from(self.number) + 2", "refused: "),
     "twice/nothing_behind_the_next": ("src/counting.rt", "    low.next()", "    low.next() + 0", "FAILED in round 2: the crate is still proved"),
+    "twice/one_behind_the_next": ("src/counting.rt", "    low.next()", "    low.next() + 1", "refused: "),
     "twice/no_next": ("src/counting.rt", "u16::from(self.number) + 1", "u16::from(self.number)", "refused: "),
     "twice/half": ("src/counting.rt", "High { number: low.number }", "High { number: low.number / 2 }", "refused: "),
     "lawful/doubled_is_one_more": ("specs/Doubled.antt", "doubled n = n + n", "doubled n = n + 1", "refused: lawful::laws_again_"),
@@ -267,6 +295,17 @@ COPIED = {
     ("two_of_none", "specs/Doubled.antt"): False,
     ("two_of_a_number", "specs/Digits.antt"): False,
     ("two_of_a_number", "src/laws.rt"): False,
+}
+
+# What a function's own proof says and what another file of proofs does, and whether a copy of it is proved wherever the function is.
+FORMS = {
+    ("use Rattle.twice.proofs.counting.ones.Goals as goal\n", "use Rattle.twice.proofs.counting.ones_more.Met\n"): True,
+    ("use Rattle.twice.proofs.counting.ones.Goals as goal\n", "use Rattle.twice.proofs.counting.ones.Met\n"): False,
+    ("use Rattle.twice.proofs.counting.ones as own\n", ""): False,
+    ("use Rattle.twice.proofs.counting as counting\nuse counting.ones.Goals as goal\n", ""): False,
+    ("use Rattle.twice.proofs.counting.{ones}\n", ""): False,
+    ("use Rattle.twice.proofs.counting.ones.Goals as goal\n\npub returns-ones : goal.returns-ones\n", ""): True,
+    ("use Rattle.twice.proofs.other.ones.Goals as goal\n", ""): False,
 }
 
 # Lines that a check says of a function, and whether they refuse it, hide it or can be read.
@@ -328,6 +367,20 @@ def of_copies(folder):
     return faults, len(COPIED)
 
 
+def of_forms(folder):
+    """What is wrong with which functions are told to have copies that are proved wherever they are."""
+    faults = []
+    for (own, other), wanted in FORMS.items():
+        shutil.rmtree(folder / "forms", ignore_errors=True)
+        for place, text in (("proofs/counting/ones/Answers.antt", own), ("proofs/Lemmas.antt", other)):
+            (folder / "forms" / place).parent.mkdir(parents=True, exist_ok=True)
+            (folder / "forms" / place).write_text(text)
+        twin = try_edits.Twin(try_edits.Function("twice::counting", "ones"), "src/counting.rt", (0, 0), 2, None)
+        if twin.is_alone(folder / "forms") != wanted:
+            faults.append(f"{own} and {other}: {not wanted}, and not {wanted}")
+    return faults, len(FORMS)
+
+
 def of_lines():
     """What is wrong with how lines of a check are read."""
     function, faults = try_edits.Function("tried", "next"), []
@@ -341,7 +394,7 @@ def of_lines():
 
 def main():
     with tempfile.TemporaryDirectory(prefix="gasday-edits-trial-") as folder:
-        results = [of_lines(), of_edits(Path(folder)), of_copies(Path(folder))]
+        results = [of_lines(), of_forms(Path(folder)), of_edits(Path(folder)), of_copies(Path(folder))]
     faults, tried = [it for found, _ in results for it in found], sum(count for _, count in results)
     for it in faults:
         print(f"FAIL {it}")

@@ -4,16 +4,16 @@
 Tries the must-fail edits of the crates that are named, or of all: each must be refused by a goal or an answer of a function
 that it turns. Those of a crate that stand in bodies are tried together, in one check of a copy of the crate that has them all,
 since what is owed of a function rests on its own body and on the contracts of the others alone. Where several turn one
-function, the first turns that, and each further one a copy of it under another name, with copies of its proof's files. Where
-it has such files, a copy without any edit stands beside these, and only where no goal of that is refused what is told of the
-others counts. That check doesn't go on past what is open, and only shows that edits are refused; the others, and those whose
-function isn't copied, go to a round that says why. An edit that is told there only to call a function that isn't proved goes to
-the next round; what isn't clearly refused is tried alone and from nothing, as `rt must-fail` does, and so is an edit that turns
-more than bodies. Edits of definitions for which must-fail/refused-by.md has a line `- EDIT: LAW`, with a law that must be
-refused, are tried in the same check, or in one of their own where the crate has none of bodies, each in copies of the definitions
-and of that law (copied_laws.py); what isn't refused there is tried by that law in the crate itself. What other edits of definitions
-turn is read anew over what a check of the crate as it stands has proved, or from nothing where there is one alone. A line that
-names no edit fails.
+function, the first turns that, and each further one a copy of it under another name, with copies of its proof's files. Where a
+proof may be named in a form that copying leaves as it is, a copy without any edit stands beside these, and only where no goal
+of that is refused what is told of the others counts. That check doesn't go on past what is open, and only shows that edits are
+refused; the others, and those whose function isn't copied, go to a round that says why. An edit that is told there only to call
+a function that isn't proved goes to the next round; what isn't clearly refused is tried alone and from nothing, as `rt
+must-fail` does, and so is an edit that turns more than bodies. Edits of definitions for which must-fail/refused-by.md has a
+line `- EDIT: LAW`, with a law that must be refused, are tried in the same check, or in one of their own where the crate has
+none of bodies, each in copies of the definitions and of that law (copied_laws.py); what isn't refused there is tried by that
+law in the crate itself. What other edits of definitions turn is read anew over what a check of the crate as it stands has
+proved, or from nothing where there is one alone. A line that names no edit fails.
 
 --libraries names a copy of the repository in whose crates/*/out the libraries stand that `rt ci` has just built of the same
 files; without it they are built as `rt must-fail` builds them. With --beside that `rt ci` is still at work: LOG is what it has
@@ -132,6 +132,11 @@ class Verdict:
         return f"{self.edit}: {'refused' if self.is_refused else 'FAILED'}{later}: {self.why[:200]}"
 
 
+def is_tactic(line):
+    """Whether this is an attribute that only says how a function is proved, in one line."""
+    return line.lstrip().startswith("#[tactic(") and line.endswith(")]")
+
+
 def body_from(lines, head):
     """The line at which the body begins of the function whose head stands at this line."""
     indent = FUNCTION.match(lines[head])[1]
@@ -218,7 +223,7 @@ class Twin:
         own = {**dict(enumerate(lines)), **(self.edit.lines[self.file] if self.edit else {})}
         name = FUNCTION.match(lines[head])
         first = lines[head][: name.start(2)] + self.named(name[2]) + lines[head][name.end(2) :]
-        return ["", first, *(own[at] for at in range(head + 1, end + 1))]
+        return ["", *lines[head - 1 : head] * is_tactic(lines[head - 1]), first, *(own[at] for at in range(head + 1, end + 1))]
 
     def proofs(self, folder):
         """The folders of the function's own proof, and of its closures', below a crate's."""
@@ -227,6 +232,22 @@ class Twin:
             return [*Path(folder, "proofs").rglob("/".join([*before, name]))]
         inside = Path(folder, "proofs", *self.original.module.split("::")[1:])
         return [it for it in (inside / name, inside / "fn" / name) if it.is_dir()]
+
+    def is_alone(self, folder):
+        """Whether a copy is proved wherever the function is: nothing but the function's own proof names that, and this only in the form
+        in which its copies name theirs."""
+        own, *more = self.proofs(folder) or [None]
+        if more or not own:
+            return not more
+        *before, name = map(re.escape, own.relative_to(Path(folder, "proofs")).parts)
+        path = "".join(rf"\.{it}" for it in before)
+        inside, outside = re.compile(rf"(\bproofs{path}\.)?(?<![\w-]){name}(?![\w-])(\.)?"), re.compile(rf"{path}\.{name}\b")
+
+        def is_copied(file):
+            text = file.read_text(encoding="utf-8")
+            return all(all(it.groups()) for it in inside.finditer(text)) if own in file.parents else not outside.search(text)
+
+        return all(is_copied(file) for part in ("proofs", "specs") for file in Path(folder, part).rglob("*.antt"))
 
     def lay(self, folder):
         """Lays the copy's proof beside the function's."""
@@ -240,7 +261,7 @@ class Twin:
 
 def twin_of(folder, edit, number):
     """The copy of the function that the edit turns, or None where it turns several, or one that isn't copied: a trait's method, one
-    whose body calls something of its own name, which may be itself, or one with attributes."""
+    whose body calls something of its own name, which may be itself, or one with attributes that say more than how it is proved."""
     (file, changed), *more = edit.lines.items()
     lines = Path(folder, file).read_text(encoding="utf-8").split("\n")
     place = place_at(lines, min(changed))
@@ -249,22 +270,25 @@ def twin_of(folder, edit, number):
     head, end = place
     indent, name = FUNCTION.match(lines[head]).groups()
     is_method = indent and next((it[2] for it in map(IMPL.match, reversed(lines[:head])) if it), "none")
-    calls_itself = any(re.search(rf"\b{name}\(", it) for it in lines[head + 1 : end + 1])
-    if is_method or calls_itself or name == "main" or lines[head - 1].lstrip().startswith("#"):
+    # (a method that is called behind a dot is no function beside types)
+    alone = "" if indent else r"(?<!\.)"
+    calls_itself = any(re.search(rf"{alone}\b{name}\(", it) for it in lines[head + 1 : end + 1])
+    has_attributes = lines[head - 1].lstrip().startswith(("#", ")]")) and not is_tactic(lines[head - 1])
+    if is_method or calls_itself or name == "main" or has_attributes:
         return None
     return Twin(edit.functions[0], file, place, number, edit)
 
 
 def with_twins(folder, edits):
     """Those of the edits that copies of their functions can have, each with such a copy, a copy without any edit of each of these
-    functions whose proof has files, and the edits that are left."""
+    functions of which a copy may not be proved, and the edits that are left."""
     twins, left, numbers = [], [], {}
     for edit in edits:
         twin = twin_of(folder, edit, 1 + numbers.get(edit.functions[0], 1))
         if not twin:
             left.append(edit)
             continue
-        if twin.number == 2 and twin.proofs(folder):
+        if twin.number == 2 and not twin.is_alone(folder):
             twins.append(dataclasses.replace(twin, number=1, edit=None))
         numbers[twin.original] = twin.number
         twins.append(twin)
