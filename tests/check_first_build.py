@@ -3,7 +3,8 @@
 
 Looks at what a first build and a gate take of one another (tests/rt_ci.py), on a crate that is made here, of a text that no run
 has had: a first build doesn't look for contracts that no call can meet, so a gate behind it takes nothing that it kept; and a first
-build takes what a gate has kept, by a kit that keeps such work. The last line is 'N passed, M failed', and the exit status is 0 only where none failed.
+build takes what a gate has kept, by a kit that keeps such work. The last line is 'N passed, M failed', and the exit status is 0
+only where none failed.
 """
 
 import secrets

@@ -223,7 +223,8 @@ class Twin:
         own = {**dict(enumerate(lines)), **(self.edit.lines[self.file] if self.edit else {})}
         name = FUNCTION.match(lines[head])
         first = lines[head][: name.start(2)] + self.named(name[2]) + lines[head][name.end(2) :]
-        return ["", *lines[head - 1 : head] * is_tactic(lines[head - 1]), first, *(own[at] for at in range(head + 1, end + 1))]
+        above = [lines[head - 1]] if is_tactic(lines[head - 1]) else []
+        return ["", *above, first, *(own[at] for at in range(head + 1, end + 1))]
 
     def proofs(self, folder):
         """The folders of the function's own proof, and of its closures', below a crate's."""
