@@ -20,8 +20,8 @@ from pathlib import Path
 
 from toolchain import remembered, toolchain
 
-# The seconds of a processor that proofs took, by crate, as tests/time_gate.py tells them; those of gasday_files, gasday_orders and
-# gasday are reckoned from slower machines'.
+# The seconds of a processor that proofs took, by crate, as tests/time_gate.py tells them; those of crates that
+# came since, and of gasday, are reckoned from slower machines'.
 MEASURED = Path(__file__).with_name("proof_seconds.txt")
 # What a check costs that isn't among them: so many seconds, and one more for so many of its crate's lines.
 EACH, LINES = 50, 12

@@ -11,7 +11,7 @@ use Rattle.gd_course.specs.Course.{Runs}
 use Rattle.gd_journal_store.specs.Pieces.{Piece}
 use Rattle.gd_serving.specs.Runs.{rows_text, told_text}
 use Rattle.gd_live.specs.Kept.{AreCalls}
-use Rattle.gd_live_text.specs.OneText.{OpensAs, RunsAs}
+use Rattle.gd_live.specs.OneText.{OpensAs, RunsAs}
 use Rattle.gasday_words.specs.declared.order.Command.TheVariants as command
 use Rattle.gasday_part.specs.Answers.{Told, AnswersBytes, AnswersRows, AnswersText, IsCalendarIn, TellsDay, day_in}
 use Rattle.gasday_live.specs.Books.{IsBook}

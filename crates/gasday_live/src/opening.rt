@@ -13,7 +13,7 @@ use gasday_part::{NoBook, open_book};
 use gd_book::Book;
 use gd_day::event_of;
 use gd_live::{Desk, Room};
-use gd_opening::is_closed;
+use gd_text_lines::is_closed;
 use gd_text_part::{Cause, Form, MAX_BYTES, MAX_ROWS, Row, TextFault, rows_in};
 use std::alloc::Global;
 

@@ -3,3 +3,10 @@ mod Joining
 mod Made
 mod Standing
 mod Taking
+mod Stood
+mod OpeningRows
+mod Alike
+mod PassedOver
+mod FirstGroup
+mod OneText
+mod Examples

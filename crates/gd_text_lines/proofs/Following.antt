@@ -12,7 +12,7 @@ use Rattle.gd_text_part.specs.Lines.{IsPlain, cut_at_commas}
 use Rattle.gd_text_lines.specs.Lines.{Left, left_by, IsClosed, text_of_lines}
 use Rattle.gd_text_lines.proofs.Fronts.{rows_join, fronts_join}
 use Rattle.gd_text_lines.proofs.Joined.{joins, left_append}
-use Rattle.gd_text_lines.proofs.Marks.{strip_joins}
+use Rattle.gd_text_lines.proofs.HeadMarks.{strip_joins}
 use Rattle.gd_text_lines.proofs.Plain.{lines_closed, lines_are}
 
 pub text_joins : (text more : List ℕ) → text ≢ [] → IsClosed (strip_bom text) → records_of (text ++ more) ≡ records_of text ++ records default_config more

@@ -1,3 +1,5 @@
 pub mod Calls
 pub mod Fronts
 pub mod Lines
+pub mod Stands
+pub mod Openings

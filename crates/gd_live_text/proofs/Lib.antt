@@ -1,7 +1,0 @@
-mod Stood
-mod OpeningRows
-mod Alike
-mod PassedOver
-mod FirstGroup
-mod OneText
-mod Examples

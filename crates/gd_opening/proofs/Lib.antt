@@ -1,4 +1,0 @@
-mod States
-mod Marks
-mod Growing
-mod Examples
