@@ -131,9 +131,9 @@ check_named (Some word) =
 -- the order of `check`: the check that its word names, over any texts; or that of an answer, where the word names none, and so is
 -- a question's file, with the answer's behind it
 abbrev pub check_order : Option Command → Option Text → List Text → Option Ordered
-check_order (Some named) word texts = Some (ordered.Text named)
-check_order None (Some question) texts = if length texts == 1 then Some ordered.CheckAnswer else None
-check_order None None texts = None
+check_order (Some named) _ _ = Some (ordered.Text named)
+check_order None (Some _) texts = if length texts == 1 then Some ordered.CheckAnswer else None
+check_order None None _ = None
 
 -- the files that `check` reads: where its word names no check that is the first of them
 abbrev pub check_texts : Option Command → Option Text → List Text → List Text

@@ -55,3 +55,6 @@ returns-clause-stopped g c =
 
 pub returns-clause-clean : goal.returns-clause-clean
 returns-clause-clean g c up = c.turns.invariant.clean up
+
+pub returns-clause-ended : goal.returns-clause-ended
+returns-clause-ended g c = tt
