@@ -4,7 +4,6 @@ use Rattle.std.specs.List.{AllZip}
 use Rattle.std.proofs.lemmas.List.{map-append, append-nil}
 use Rattle.std.proofs.lemmas.Option.{slice_get-map, same_Some}
 use Rattle.gd_book.specs.Kept.{Kept}
-use Rattle.gd_day.specs.Opening.{Opened}
 use Rattle.gd_day.specs.declared.text.DayText.{DayText}
 use Rattle.gd_machine.specs.Day.{Day}
 use Rattle.gd_office.specs.Slots.{AreDaysOf}

@@ -1,4 +1,4 @@
-use Rattle.std.proofs.Common.{◌≡◌, ◌∙◌, ◌<◌, ◌+◌, ℕ, length, ap, sym, subst, arith, rules}
+use Rattle.std.proofs.Common.{◌≡◌, ◌<◌, ◌+◌, ℕ, length, sym, subst, arith}
 use Rattle.gasday_office.specs.Offices.{IsEnd, IsOrder}
 use Rattle.gasday_office.proofs.Calendars.{there}
 use Rattle.gasday_office.proofs.Ends.{one_more}

@@ -1,6 +1,5 @@
-use Rattle.std.proofs.Common.{◌≡◌, ap, subst, sym, rules}
+use Rattle.std.proofs.Common.{◌≡◌, subst, sym, rules}
 use Rattle.gd_book.specs.Kept.{Kept}
-use Rattle.gd_machine.specs.Day.{Day}
 use Rattle.gd_office_part.specs.Days.{IsDayOf}
 use Rattle.gasday_office.proofs.answer.summary_in.Goals as goal
 

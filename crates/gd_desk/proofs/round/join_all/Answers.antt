@@ -1,4 +1,4 @@
-use Rattle.std.proofs.Common.{◌≡◌, ◌∷◌, ◌+◌, ◌∙◌, rules, arith, refl, IfOk, length, vec_len, sym}
+use Rattle.std.proofs.Common.{◌≡◌, ◌∷◌, ◌+◌, rules, arith, IfOk, length, vec_len}
 use Rattle.std.specs.Vec.Iter.{into_iter_items}
 use Rattle.gd_desk.specs.Desks.{IsDesk}
 use Rattle.gd_desk.proofs.Places.{each_more}

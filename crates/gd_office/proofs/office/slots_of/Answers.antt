@@ -1,4 +1,4 @@
-use Rattle.std.proofs.Common.{◌≡◌, ◌∷◌, ◌+◌, rules, vec_len}
+use Rattle.std.proofs.Common.{◌≡◌, ◌∷◌, rules, vec_len}
 use Rattle.std.specs.Vec.Iter.{into_iter_items}
 use Rattle.gd_office.proofs.Numbering.{days_first, day_next, days_left}
 use Rattle.gd_office.proofs.office.slots_of.Goals as goal

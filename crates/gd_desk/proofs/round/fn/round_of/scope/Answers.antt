@@ -1,4 +1,4 @@
-use Rattle.std.proofs.Common.{◌≡◌, ◌∷◌, ◌+◌, ◌∙◌, List, Some, slice_get, rules, arith, refl, IfSome, length, vec_len, sym, ap}
+use Rattle.std.proofs.Common.{◌≡◌, ◌+◌, ◌∙◌, Some, slice_get, rules, arith, IfSome, length, vec_len, sym, ap}
 use Rattle.std.proofs.lemmas.Option.{slice_get-get_or}
 use Rattle.gd_office_part.specs.Seen.{Slot}
 use Rattle.gd_desk.proofs.Places.{each_more}
