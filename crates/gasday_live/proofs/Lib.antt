@@ -1,7 +1,6 @@
 mod Asking
 mod BegunBooks
 mod DayTexts
-mod Faults
 mod MadeAgain
 mod Making
 mod Opened

@@ -5,8 +5,6 @@ use Rattle.sqlite.specs.Effect.{Database}
 use Rattle.sqlite.specs.State.{State, HasCleanDisk}
 use Rattle.gd_serving.specs.declared.failure.Failure.{Failure}
 use Rattle.gd_live.specs.Stands.{Stand}
-use Rattle.gd_replies.specs.declared.reply.Reply.{Reply}
-use Rattle.gd_replies.specs.declared.reply.Reply.TheVariants as reply
 use Rattle.gasday_part.specs.AnswerSeen.{answer_seen}
 use Rattle.gasday_part.specs.Answers.{Told, one, no_memory}
 use Rattle.gasday_part.specs.Output.{Written, WritesTold}
@@ -70,9 +68,3 @@ untaken (Err e) why all was new before behind status written tells explains = (o
 -- an answer with status 2 that is told of a failure
 pub told_2 : (before behind : Option (List ℕ)) (status : ℕ) (a : Told) → a.status ≡ 2 → Written before behind status a → Written before behind status a × (status ≡ 2)
 told_2 before behind status a two written = (written, status_2 before behind status a written two)
-
--- the row of a store's fault is one of two
-pub told_store : (before behind : Option (List ℕ)) (status : ℕ) (row : Reply) → (row ≡ reply.Store) ⊎ (row ≡ reply.Busy) → Written before behind status (one row 2)
-    → (Written before behind status (one reply.Store 2) ⊎ Written before behind status (one reply.Busy 2)) × (status ≡ 2)
-told_store before behind status row (inl is) written = (inl (subst (λ (r : Reply). Written before behind status (one r 2)) is written), status_2 before behind status (one row 2) written refl)
-told_store before behind status row (inr is) written = (inr (subst (λ (r : Reply). Written before behind status (one r 2)) is written), status_2 before behind status (one row 2) written refl)

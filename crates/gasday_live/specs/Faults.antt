@@ -1,5 +1,5 @@
 -- Why the book of a file isn't made again, and how that is told.
-use Rattle.std.specs.Prelude.{◌≡◌, ◌⊎◌, List, ⊤}
+use Rattle.std.specs.Prelude.{◌≡◌, List, ⊤}
 use Rattle.sqlite.specs.Effect.{Database}
 use Rattle.sqlite.specs.State.{State}
 use Rattle.gd_journal_store.specs.Pieces.{Piece, Keeps}
@@ -13,7 +13,7 @@ use Rattle.gasday_live.specs.Books.{Blames}
 abbrev pub TellsFault : ReplayFault → Told → Type 0
 TellsFault (Differs piece call) a = a ≡ refused (reply.Differs piece call)
 TellsFault OutOfMemory a = ⊥
-TellsFault (Store f) a = (a ≡ one reply.Store 2) ⊎ (a ≡ one reply.Busy 2)
+TellsFault (Store f) a = a ≡ one reply.Store 2
 
 -- a difference is told of the pieces that a database keeps
 abbrev pub ExplainsIn : Database → ReplayFault → Type 0

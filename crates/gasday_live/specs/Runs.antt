@@ -41,8 +41,7 @@ abbrev pub TellsFailure : Option (List ℕ) → Option (List ℕ) → Failure �
 TellsFailure before behind WriteFailed status = (behind ≡ before) × (status ≡ 2)
 TellsFailure before behind ReadFailed status = Written before behind status (fault_answer fault.ReadFailed) × (status ≡ 2)
 TellsFailure before behind OutOfMemory status = Written before behind status (one no_memory 2) × (status ≡ 2)
-TellsFailure before behind (Store f) status =
-    (Written before behind status (one reply.Store 2) ⊎ Written before behind status (one reply.Busy 2)) × (status ≡ 2)
+TellsFailure before behind (Store f) status = Written before behind status (one reply.Store 2) × (status ≡ 2)
 
 -- ---- where a run begins
 

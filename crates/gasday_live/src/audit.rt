@@ -1,11 +1,10 @@
 //! What is told of a book's file.
 
-ghost use Rattle.std.specs.Prelude.{◌≡◌, ◌⊎◌, List, IfOk, IfErr};
+ghost use Rattle.std.specs.Prelude.{List, IfOk, IfErr};
 ghost use Rattle.sqlite.specs.Held.{state};
 ghost use Rattle.sqlite.specs.State.{HasCleanDisk};
 ghost use Rattle.gd_journal_store.specs.Pieces.{Piece as APiece, Keeps, LeavesNoMore};
 ghost use Rattle.gd_live.specs.Seen.{at_desk};
-ghost use Rattle.gd_replies.specs.declared.reply.Reply.TheVariants as reply;
 ghost use Rattle.gasday_part.specs.AnswerSeen.{answer_seen};
 ghost use Rattle.gasday_live.specs.Books.{Stands};
 ghost use Rattle.gasday_live.specs.Audits.{Audits};
@@ -15,22 +14,12 @@ use crate::kept::KeptBook;
 use crate::laws::kept_book_is_day;
 use crate::reading::read_book;
 use gasday_part::{Answer, of_one};
-use gd_journal_store::{StoreFault, count};
+use gd_journal_store::count;
 use gd_replies::Reply;
 use gd_serving::ReplayFault;
 use sqlite::{Alter, Connection};
 use std::alloc::{AllocError, Global};
 use std::thread::Threads;
-
-/// The row of a file that can't be read or written.
-pub(crate) fn store_row(fault: &StoreFault) -> Reply
-    ensures { (result ≡ reply.Store) ⊎ (result ≡ reply.Busy) }
-{
-    match fault {
-        StoreFault::Busy => Reply::Busy,
-        _ => Reply::Store,
-    }
-}
 
 /// The answer where a file's book isn't made again. Want of memory is handed on as such.
 pub(crate) fn of_replay_fault(alloc: Global, why: &ReplayFault) -> Result<Answer, AllocError>
@@ -46,7 +35,7 @@ pub(crate) fn of_replay_fault(alloc: Global, why: &ReplayFault) -> Result<Answer
             1,
         ),
         ReplayFault::OutOfMemory => Err(AllocError),
-        ReplayFault::Store(fault) => of_one(alloc, store_row(fault), 2),
+        ReplayFault::Store(_) => of_one(alloc, Reply::Store, 2),
     }
 }
 

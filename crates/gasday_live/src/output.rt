@@ -7,7 +7,6 @@ ghost use Rattle.gasday_part.specs.Answers.{one};
 ghost use Rattle.gasday_part.specs.Output as output;
 ghost use Rattle.gasday_live.specs.Runs.{TellsFailure, TellsFinish};
 
-use crate::audit::store_row;
 use crate::lines::Ending;
 use gasday_part::{Written, of_fault, of_one, write_answer, write_rows};
 use gd_replies::Reply;
@@ -43,7 +42,7 @@ pub(crate) fn tell_failure<W: Write>(alloc: Global, writer: &mut W, why: &Failur
         Failure::WriteFailed => told_nothing(2),
         Failure::ReadFailed => { write_rows(alloc, writer, of_fault(alloc, TextFault::ReadFailed)) }
         Failure::OutOfMemory => write_rows(alloc, writer, Err(AllocError)),
-        Failure::Store(fault) => write_rows(alloc, writer, of_one(alloc, store_row(fault), 2)),
+        Failure::Store(_) => write_rows(alloc, writer, of_one(alloc, Reply::Store, 2)),
     }
 }
 

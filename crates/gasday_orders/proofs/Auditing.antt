@@ -19,7 +19,7 @@ module _ {S E : Type 0} (g : Ghosts S) (each : Bool) (old new : Held S) where
   pub book_audited : (r : Result Answer E) → (state g old).now.schema ≡ journal → (HasCleanDisk (state g new) → IfOk r (λ a. book.Audits (state g old) (answer_seen a)))
       → Tells (λ a. HasCleanDisk (state g new) → TellsAudit g each old new a) r
   book_audited (Ok a) is audits = record { told = answer_seen a; means = λ clean. inl (is, audits clean); is = refl }
-  book_audited (Err e) is audits = record { told = one reply.Store 2; means = λ clean. inl (is, inr (why.Store store.Busy, tt, inl refl)); is = tt }
+  book_audited (Err e) is audits = record { told = one reply.Store 2; means = λ clean. inl (is, inr (why.Store store.Damaged, tt, refl)); is = tt }
 
   -- of an archive
   pub other_audited : (asked : Bool) → each ≡ asked → (r : Result Answer E) → (state g old).now.schema ≢ journal → Tells (λ a. HasCleanDisk (state g new) → TellsArchive g asked old new a) r

@@ -1,18 +1,25 @@
 -- Rows that are read one at a time.
-use Rattle.std.proofs.Common.{◌≡◌, ℕ, ◌+◌, List, [], ◌∷◌, ◌++◌, length, map, Ok, Err, Result, OnErr, refl, sym, ap, subst, ◌∙◌, arith, length-append}
-use Rattle.std.proofs.lemmas.List.{map-append}
+use Rattle.std.proofs.Common.{◌≡◌, ℕ, ◌+◌, ◌<◌, ◌≤◌, List, [], ◌∷◌, ◌++◌, length, map, get_or, Ok, Err, Result, OnErr, refl, sym, ap, ap₂, subst, ◌∙◌, arith, length-append}
+use Rattle.std.proofs.lemmas.List.{map-append, length-map}
 use Rattle.sqlite.specs.Order.{Row}
 use Rattle.sqlite.specs.Effect.{Database}
 use Rattle.sqlite.specs.Schema.{Schema}
 use Rattle.sqlite.specs.Listing.{understood}
 use Rattle.sqlite.specs.State.{State, Shown, Survives, CommitsShowing, IsUnchanged}
+use Rattle.sqlite.specs.Held.{Held, state}
+use Rattle.sqlite.specs.Given.{HasGiven}
+use Rattle.sqlite_trees.specs.declared.store.Store.{Ghosts}
+use Rattle.sqlite_resolve.specs.declared.compiled.Compiled.{Compiled}
 use Rattle.sqlite.proofs.StateLemmas.{survives_weaker}
-use Rattle.sqlite.proofs.Callers.{IsPlain, never_commits, unchanged_then}
+use Rattle.sqlite.proofs.Callers.{IsPlain, command_of, EndsIn, begins_shown, given_begin, never_commits, unchanged_then}
 use Rattle.gd_journal_store.specs.Table.{journal}
 use Rattle.gd_journal_store.specs.Pieces.{Piece, numbered, numbered_at, HasPieces}
 use Rattle.gd_journal_store.specs.Rows.{shape}
-use Rattle.gd_journal_store.proofs.Numbers.{numbered_more}
-use Rattle.gd_journal_store.proofs.Listing.{shows_all}
+use Rattle.gd_journal_store.specs.Calls.{IsOfRows}
+use Rattle.gd_journal_store.specs.declared.fault.StoreFault.{StoreFault}
+use Rattle.gd_journal_store.specs.declared.fault.StoreFault.TheVariants.{NotAJournal, Damaged, Store}
+use Rattle.gd_journal_store.proofs.Numbers.{numbered_more, length_numbered, at}
+use Rattle.gd_journal_store.proofs.Listing.{shows_all, shows_each}
 use Rattle.gd_journal_store.proofs.Texts.{all_text, all_is}
 
 -- these rows were given so far, and so many pieces are what they are
@@ -48,6 +55,55 @@ commits_none sql plain params old new has = survives_weaker old new _ _ (λ _ db
 
 pub commits_nothing : (old new : State) → old.now.schema ≡ journal → Survives old new (CommitsShowing all_text [] old) → Survives old new (λ _. ⊥)
 commits_nothing = commits_none all_text all_is.2 []
+
+module _ {S : Type 0} (g : Ghosts S) (old h : Held S) (has : old.schema ≡ journal) (same : IsUnchanged (state g old) (state g h)) where
+  schema_is : h.schema ≡ journal
+  schema_is = ap (λ (d : Database). d.schema) same.0.now_is ∙ has
+
+  -- the query is no recursion, so it has an end
+  ends : (c : Compiled) (db : Database) (params : Row) → understood h.schema all_text ≡ Ok c → EndsIn c.command db params
+  ends c db params is =
+      let known : c.command ≡ _ = ap command_of (sym is ∙ ap (λ s. understood s all_text) schema_is) ∙ all_is.0 in
+      subst (λ k. EndsIn k db params) (sym known) tt
+
+  unchanged : IsUnchanged (state g h) (state g h)
+  unchanged = (record { was_open = same.0.is_open; is_open = same.0.is_open; now_is = refl; committed_is = refl; mode = refl }, record { changes = refl; last_rowid = refl }, refl)
+
+  -- the rows that were given so far are the first pieces
+  pub given_of : (given : List Row) → HasGiven g all_text [] h given → (ps : List Piece) → HasPieces ps (state g old).now.trees → (tail : List Row) × (map shape (given ++ tail) ≡ numbered 1 ps)
+  given_of given it ps pieces =
+      let s = state g h in
+      let whole = begins_shown all_text [] s s given (given_begin g all_text [] h given it) unchanged (λ c db statement from. ends c db _ statement.is) in
+      (whole.0, shows_each s s (given ++ whole.0) schema_is whole.1 ps (subst (λ (d : Database). HasPieces ps d.trees) (sym same.0.now_is) pieces))
+
+reach : (given tail : List Row) (row : Row) → length given < length (map shape ((given ++ row ∷ []) ++ tail))
+reach [] tail row = omega arith
+reach (r ∷ given) tail row = omega (arith, reach given tail row)
+
+placed : (given tail : List Row) (row d : Row) → get_or (map shape ((given ++ row ∷ []) ++ tail)) (length given) d ≡ shape row
+placed [] tail row d = refl
+placed (r ∷ given) tail row d = placed given tail row d
+
+counted_length : (given : List Row) (n : ℕ) → HasCounted given n → length given ≡ n
+counted_length given n h = sym (length-map given shape) ∙ ap length h.shapes ∙ length_numbered 1 h.ps ∙ sym h.count
+
+-- the row behind those that were counted is the next piece
+pub next_piece : (given tail : List Row) (n : ℕ) (row : Row) (ps : List Piece) → HasCounted given n → map shape ((given ++ row ∷ []) ++ tail) ≡ numbered 1 ps
+    → (n < length ps) × (shape row ≡ numbered_at (n + 1) (get_or ps n ([], [])))
+next_piece given tail n row ps counted is =
+    let len = counted_length given n counted in
+    let low : n < length ps = omega (arith, len, reach given tail row, ap length is, length_numbered 1 ps) in
+    (low, sym (placed given tail row []) ∙ ap₂ (λ (l : List Row) (i : ℕ). get_or l i []) is len ∙ at 1 ps n [] low)
+
+-- so many rows as were counted are no more than the pieces
+pub no_more : (given tail : List Row) (n : ℕ) (ps : List Piece) → HasCounted given n → map shape (given ++ tail) ≡ numbered 1 ps → n ≤ length ps
+no_more given tail n ps counted is =
+    omega (arith, counted_length given n counted, ap length is, length_numbered 1 ps, length-map (given ++ tail) shape, length-append given tail)
+
+pub damage_weaker : (A B : Type 0) (fault : StoreFault) → (A → B) → IsOfRows A fault → IsOfRows B fault
+damage_weaker A B NotAJournal f h = h
+damage_weaker A B Damaged f h = f h
+damage_weaker A B (Store e) f h = h
 
 -- an answer that is counted to its end is all pieces
 pub all_counted : (first old new : State) (given : List Row) (n : ℕ) → first.now.schema ≡ journal → IsUnchanged first old → Shown all_text [] old new given → HasCounted given n

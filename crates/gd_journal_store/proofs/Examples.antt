@@ -3,16 +3,13 @@ use Rattle.std.proofs.Common.{◌≡◌, ◌⊎◌, inl, inr, ℕ, ◌+◌, pos,
 use Rattle.std.specs.Bool.{⊤}
 use Rattle.std.proofs.lemmas.List.Sorted.{IsPermutation-refl, IsPermutation-to_front, length_permutation}
 use Rattle.sqlite.specs.declared.types.Value.TheVariants.{Null, Int, Blob}
-use Rattle.sqlite.specs.declared.error.Error.TheVariants.{SqliteFailure}
-use Rattle.sqlite.specs.declared.error.ErrorCode.TheVariants.{DatabaseBusy, CannotOpen}
 use Rattle.sqlite.specs.Order.{Row}
 use Rattle.sqlite.specs.Tree.{Trees}
 use Rattle.sqlite.specs.Effect.{Database}
 use Rattle.sqlite.specs.State.{State}
 use Rattle.gd_journal_store.specs.Table.{journal}
 use Rattle.gd_journal_store.specs.Pieces.{Piece, shown, numbered, HasPieces, Keeps, IsSettled, LeavesOr}
-use Rattle.gd_journal_store.specs.Calls.{fault_of, part}
-use Rattle.gd_journal_store.specs.declared.fault.StoreFault.TheVariants.{Busy, Store}
+use Rattle.gd_journal_store.specs.Calls.{KeepsFewer, KeepsNone, part}
 use Rattle.gd_journal_store.proofs.Numbers.{length_numbered, all_shown, number_same, same_pieces}
 
 abbrev opening : Piece
@@ -116,5 +113,13 @@ worked_loss h = elim (h (tree []) refl) [
 worked_part : part 1 2 (opening ∷ call ∷ opening ∷ call ∷ []) ≡ call ∷ opening ∷ []
 worked_part = refl
 
-worked_fault : (fault_of (SqliteFailure DatabaseBusy) ≡ Busy) × (fault_of (SqliteFailure CannotOpen) ≡ Store (SqliteFailure CannotOpen))
-worked_fault = (refl, refl)
+-- a file with a gap is told damaged, and one that keeps both is not
+worked_damaged : KeepsNone (db_of (stored 1 opening ∷ stored 3 call ∷ []))
+worked_damaged ps few keeps = worked_gap ps keeps.pieces
+
+worked_sound : ¬ KeepsNone (db_of both_rows)
+worked_sound h = h both (omega arith) worked_keeps
+
+-- nor where so many are asked for as there are
+worked_fewer : ¬ KeepsFewer 2 (db_of both_rows)
+worked_fewer h = omega (arith, h both (omega arith) worked_keeps)

@@ -2,6 +2,7 @@ mod Texts
 mod Refusing
 mod Rows
 mod Numbers
+mod Ascending
 mod Committing
 mod Creating
 mod Inserting

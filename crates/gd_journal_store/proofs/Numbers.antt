@@ -1,5 +1,5 @@
 -- Pieces with their numbers.
-use Rattle.std.proofs.Common.{◌≡◌, ℕ, zero, suc, ◌+◌, ◌<◌, ◌≤◌, List, [], ◌∷◌, ◌++◌, All, length, get_or, map, take, drop, refl, sym, ap, subst, ◌∙◌, arith, ext_get_or}
+use Rattle.std.proofs.Common.{◌≡◌, ℕ, zero, suc, ◌+◌, ◌<◌, ◌≤◌, List, [], ◌∷◌, ◌++◌, All, length, get_or, map, take, drop, refl, sym, ap, ap₂, subst, ◌∙◌, arith, ext_get_or}
 use Rattle.std.specs.List.Sorted.{IsPermutation}
 use Rattle.std.proofs.lemmas.List.{length-map, get_or-map, length-drop, length-take-le, get_or-take, get_or-drop, take_all}
 use Rattle.std.proofs.lemmas.List.Sorted.{IsPermutation-sym, IsPermutation-trans, IsPermutation-cons, IsPermutation-to_front, All-permutation, length_permutation}
@@ -29,7 +29,7 @@ pub length_numbered : (n : ℕ) (ps : List Piece) → length (numbered n ps) ≡
 length_numbered n [] = refl
 length_numbered n (p ∷ ps) = ap suc (length_numbered (n + 1) ps)
 
-at : (n : ℕ) (ps : List Piece) (i : ℕ) (d : Row) → i < length ps → get_or (numbered n ps) i d ≡ numbered_at (i + n) (get_or ps i none)
+pub at : (n : ℕ) (ps : List Piece) (i : ℕ) (d : Row) → i < length ps → get_or (numbered n ps) i d ≡ numbered_at (i + n) (get_or ps i none)
 at n [] i d low = absurd (omega (arith, low))
 at n (p ∷ ps) zero d low = let same : n ≡ 0 + n = omega arith in ap (λ m. numbered_at m p) same
 at n (p ∷ ps) (suc i) d low =
@@ -76,6 +76,14 @@ module _ (ps qs : List Piece) (after : ℕ) (all : All (IsOneOf ps) (numbered (a
       let fits = within (length qs) refl in
       ext_get_or none qs (part after (length qs) ps) (sym (length-take-le (length qs) (drop after ps) fits)) (λ i low.
       (here i low).1 ∙ sym (get_or-take (length qs) (drop after ps) i none low ∙ get_or-drop after ps i none))
+
+-- pieces under the same numbers are the same
+pub numbered_same : (n : ℕ) (ps qs : List Piece) → numbered n ps ≡ numbered n qs → ps ≡ qs
+numbered_same n [] [] e = refl
+numbered_same n [] (q ∷ qs) e = absurd (omega (arith, ap length e))
+numbered_same n (p ∷ ps) [] e = absurd (omega (arith, ap length e))
+numbered_same n (p ∷ ps) (q ∷ qs) e =
+    ap₂ ◌∷◌ (piece_same n n p q (ap (λ l. get_or l 0 []) e)) (numbered_same (n + 1) ps qs (ap (drop 1) e))
 
 -- two lists of pieces that one tree has are one
 pub same_pieces : (rows : List Row) (ps qs : List Piece) → IsPermutation rows (numbered 1 ps) → IsPermutation rows (numbered 1 qs) → qs ≡ ps

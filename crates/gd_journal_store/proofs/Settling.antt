@@ -1,30 +1,30 @@
 -- What is read of a journal that is settled.
-use Rattle.std.proofs.Common.{◌≡◌, inl, inr, IsTrue, ℕ, ◌+◌, List, All, length, map, Ok, Err, Result, IfErr, OnErr, false, sym, ap, subst, ◌∙◌, arith}
+use Rattle.std.proofs.Common.{◌≡◌, ◌≢◌, inl, inr, IsTrue, ℕ, ◌+◌, ◌<◌, List, length, map, drop, Ok, Err, Result, IfErr, OnErr, false, sym, ap, subst, ◌∙◌, arith, length-drop, length-take-le}
+use Rattle.std.proofs.lemmas.Bool.{cases_lt}
 use Rattle.std.proofs.lemmas.List.{length-map, take_all}
 use Rattle.sqlite.specs.Order.{Row}
 use Rattle.sqlite.specs.State.{State, IsUnchanged}
 use Rattle.gd_journal_store.specs.Table.{journal}
 use Rattle.gd_journal_store.specs.Pieces.{Piece, numbered, HasPieces, Keeps, IsSettled, IsRefused}
-use Rattle.gd_journal_store.specs.Rows.{shape, IsOneOf}
-use Rattle.gd_journal_store.specs.Calls.{IsSame, IsNotOfTables, Stops, Counts, part}
+use Rattle.gd_journal_store.specs.Rows.{shape}
+use Rattle.gd_journal_store.specs.Calls.{IsSame, IsOfRows, Stops, Counts, part}
 use Rattle.gd_journal_store.specs.declared.fault.StoreFault.{StoreFault}
-use Rattle.gd_journal_store.specs.declared.fault.StoreFault.TheVariants.{Busy, NotAJournal, Damaged, Store}
-use Rattle.gd_journal_store.proofs.Numbers.{length_numbered, is_part}
+use Rattle.gd_journal_store.specs.declared.fault.StoreFault.TheVariants.{NotAJournal, Damaged, Store}
+use Rattle.gd_journal_store.proofs.Numbers.{length_numbered}
 use Rattle.gd_journal_store.proofs.Committing.{LeavesCommitted, settled_on}
 
 pub same_of : (old new : State) → (IsTrue old.is_open → old.now ≡ old.committed) → IsRefused old new → IsSame old new
 same_of old new settled (inl same) up = (same.0.now_is, same.0.committed_is)
 same_of old new settled (inr back) up = let is = back.undone up in (is.0 ∙ sym (settled (back.was_open up)), is.1)
 
-stops_of : (old new : State) (fault : StoreFault) → IsNotOfTables fault → IsSame old new → Stops old new fault
-stops_of old new NotAJournal other same = absurd other
-stops_of old new Busy other same = same
-stops_of old new Damaged other same = same
-stops_of old new (Store e) other same = same
+stops_of : (Damage : Type 0) (old new : State) (fault : StoreFault) → IsOfRows Damage fault → IsSame old new → Stops old new Damage fault
+stops_of Damage old new NotAJournal rows same = absurd rows
+stops_of Damage old new Damaged rows same = (rows, same)
+stops_of Damage old new (Store e) rows same = same
 
-pub stops : {X : Type 0} (old new : State) (r : Result X StoreFault) → (IsTrue old.is_open → old.now ≡ old.committed) → IfErr r IsNotOfTables → OnErr r (IsRefused old new) → IfErr r (Stops old new)
-stops old new (Ok x) settled other refused = tt
-stops old new (Err fault) settled other refused = stops_of old new fault other (same_of old new settled refused)
+pub stops : {X : Type 0} (Damage : Type 0) (old new : State) (r : Result X StoreFault) → (IsTrue old.is_open → old.now ≡ old.committed) → IfErr r (IsOfRows Damage) → OnErr r (IsRefused old new) → IfErr r (Stops old new Damage)
+stops Damage old new (Ok x) settled rows refused = tt
+stops Damage old new (Err fault) settled rows refused = stops_of Damage old new fault rows (same_of old new settled refused)
 
 pub still : (ps : List Piece) (old new : State) → LeavesCommitted new → IsUnchanged old new → IsSettled ps old → IsSettled ps new
 still ps old new law same had =
@@ -41,11 +41,14 @@ counts old new n law has mode settled found =
       settled_on found.0 new law same.0.is_open (same.0.mode ∙ mode) (same.0.committed_is ∙ sym (settled same.0.was_open) ∙ sym same.0.now_is) (subst (Keeps found.0) (sym same.0.now_is) keeps),
     )
 
--- rows of the table that are numbered so are the part of the pieces
-pub part_of : (ps qs : List Piece) (after count : ℕ) (rows : List Row) → All (IsOneOf ps) (map shape rows) → length rows ≡ count → map shape rows ≡ numbered (after + 1) qs → qs ≡ part after count ps
-part_of ps qs after count rows all len is =
-    let size : length qs ≡ count = sym (length_numbered (after + 1) qs) ∙ ap length (sym is) ∙ length-map rows shape ∙ len in
-    is_part ps qs after (subst (All (IsOneOf ps)) is all) ∙ ap (λ n. part after n ps) size
+-- rows that are a part of the pieces, and fewer than were asked for, end with the last piece
+pub too_few : (ps : List Piece) (after count : ℕ) (rows : List Row) → map shape rows ≡ numbered (after + 1) (part after count ps) → length rows ≢ count → length ps < after + count
+too_few ps after count rows is short = elim (cases_lt (length ps) (after + count)) [
+  | inl low ↦ low
+  | inr high ↦
+      let whole = length-take-le count (drop after ps) (omega (arith, high, length-drop after ps)) in
+      absurd (short (sym (length-map rows shape) ∙ ap length is ∙ length_numbered (after + 1) (part after count ps) ∙ whole))
+]
 
 pub all_part : (ps : List Piece) (n : ℕ) → n ≡ length ps → part 0 n ps ≡ ps
 all_part ps n is = take_all n ps (omega (arith, is))

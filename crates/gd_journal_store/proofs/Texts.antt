@@ -44,7 +44,7 @@ abbrev pub part_text : List ℕ
 part_text = codes "SELECT number, rows, told FROM piece WHERE number > ?1 AND number <= ?2 ORDER BY number"
 
 -- a query of numbers, rows and what was told, in order of the numbers
-abbrev ordered_query : List Term → Query
+abbrev pub ordered_query : List Term → Query
 ordered_query filter = record {
   from = inner 0 end;
   filter = filter;

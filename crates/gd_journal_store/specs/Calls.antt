@@ -1,44 +1,46 @@
 -- What the calls promise.
-use Rattle.std.specs.Prelude.{◌≡◌, ◌≢◌, ◌⊎◌, ℕ, List, [], length, take, drop, Result, Ok, Err, IsTrue}
+use Rattle.std.specs.Prelude.{◌≡◌, ◌≢◌, ◌⊎◌, ◌<◌, ◌-◌, ◌^◌, ℕ, List, [], length, take, drop, Result, Ok, Err, IsTrue}
+use Rattle.sqlite.specs.Effect.{Database}
 use Rattle.sqlite.specs.State.{State}
-use Rattle.sqlite.specs.declared.error.Error.{Error}
-use Rattle.sqlite.specs.declared.error.Error.TheVariants.{SqliteFailure}
-use Rattle.sqlite.specs.declared.error.ErrorCode.TheVariants.{DatabaseBusy}
 use Rattle.gd_journal_store.specs.Table.{no_schema, journal}
 use Rattle.gd_journal_store.specs.Pieces.{Piece, Keeps, IsSettled}
 use Rattle.gd_journal_store.specs.declared.fault.StoreFault.{StoreFault}
-use Rattle.gd_journal_store.specs.declared.fault.StoreFault.TheVariants.{Busy, NotAJournal, Damaged, Store}
+use Rattle.gd_journal_store.specs.declared.fault.StoreFault.TheVariants.{NotAJournal, Damaged, Store}
 
--- that the file is held is told apart from all else that SQL refuses
-abbrev pub fault_of : Error → StoreFault
-fault_of (SqliteFailure DatabaseBusy) = Busy
-fault_of e = Store e
+-- so few pieces that a number of 32 bits counts them, and one more
+abbrev pub IsCountable : List Piece → Type 0
+IsCountable ps = length ps < 2 ^ 32 - 1
 
--- the fault is told of something else than the tables
-abbrev pub IsNotOfTables : StoreFault → Type 0
-IsNotOfTables NotAJournal = ⊥
-IsNotOfTables Busy = Unit {0}
-IsNotOfTables Damaged = Unit {0}
-IsNotOfTables (Store e) = Unit {0}
+-- the database keeps no pieces that can be counted
+abbrev pub KeepsNone : Database → Type 0
+KeepsNone db = (ps : List Piece) → IsCountable ps → ¬ Keeps ps db
+
+-- if it keeps pieces that can be counted, they are fewer than that
+abbrev pub KeepsFewer : ℕ → Database → Type 0
+KeepsFewer n db = (ps : List Piece) → IsCountable ps → Keeps ps db → length ps < n
+
+-- the fault of reading pieces: that they are damaged only where this is so
+abbrev pub IsOfRows : Type 0 → StoreFault → Type 0
+IsOfRows Damage NotAJournal = ⊥
+IsOfRows Damage Damaged = Damage
+IsOfRows Damage (Store e) = Unit {0}
 
 module _ (old new : State) where
   -- unless the disk has shut the connection, it sees and has committed what it did
   abbrev pub IsSame : Type 0
   IsSame = IsTrue new.is_open → (new.now ≡ old.now) × (new.committed ≡ old.committed)
 
-  -- a refusal changes nothing, and one for the tables says that they are another file's
-  abbrev pub Stops : StoreFault → Type 0
-  Stops NotAJournal = (old.now.schema ≢ journal) × IsSame
-  Stops Busy = IsSame
-  Stops Damaged = IsSame
-  Stops (Store e) = IsSame
+  -- a refusal changes nothing, and tells only what is so: that the tables are another file's, or this damage
+  abbrev pub Stops : Type 0 → StoreFault → Type 0
+  Stops Damage NotAJournal = (old.now.schema ≢ journal) × IsSame
+  Stops Damage Damaged = Damage × IsSame
+  Stops Damage (Store e) = IsSame
 
   -- a journal without pieces is made where there was no table, and a journal is left as it was
   abbrev pub Makes : Result (Unit {0}) StoreFault → Type 0
   Makes (Ok _) = ((old.now.schema ≡ no_schema) × IsSettled [] new) ⊎ ((old.now.schema ≡ journal) × (new.now ≡ old.now))
   Makes (Err NotAJournal) = (old.now.schema ≢ no_schema) × (old.now.schema ≢ journal) × IsSame
-  Makes (Err Busy) = IsSame
-  Makes (Err Damaged) = IsSame
+  Makes (Err Damaged) = ⊥
   Makes (Err (Store e)) = IsSame
 
   -- the journal is settled on so many pieces, and none has changed

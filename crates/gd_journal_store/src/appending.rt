@@ -57,7 +57,7 @@ pub fn append<S: Alter>(
         HasCleanDisk new → (ps : List Piece) → IsSettled ps old → number ≡ length ps + 1
         → LeavesOr (ps ++ (rows.now, told.now) ∷ []) old new }
     ensures refused { let old = state S.Store conn.old in let new = state S.Store conn.new in
-        HasCleanDisk new → IfErr result (Stops old new) }
+        HasCleanDisk new → IfErr result (Stops old new ⊥) }
     ensures clean { HasCleanDisk (state S.Store conn.new) → HasCleanDisk (state S.Store conn.old) }
 {
     expect_journal(conn)?;

@@ -1,12 +1,10 @@
 //! Why a call is refused.
 
-use sqlite::{Error, ErrorCode};
+use sqlite::Error;
 
-/// Why a file is not opened as a journal, or a call on it is refused.
+/// Why a file is no journal, or a call on it is refused.
 #[derive(Debug, Drop)]
 pub enum StoreFault {
-    /// Another process has the file: the fault of an open that sqlite refuses as busy.
-    Busy,
     /// The file has tables, and they are not a journal's.
     NotAJournal,
     /// A piece is missing, has another number than 1, 2, 3 and so on, or isn't of bytes.
@@ -17,14 +15,11 @@ pub enum StoreFault {
 
 impl From<Error> for StoreFault {
     ghost use Rattle.std.specs.Prelude.{◌≡◌};
-    ghost use Rattle.gd_journal_store.specs.Calls.{fault_of};
+    ghost use Rattle.gd_journal_store.specs.declared.fault.StoreFault.TheVariants.{Store};
 
-    ghost from_gives = { λ error fault. fault ≡ fault_of error };
+    ghost from_gives = { λ error fault. fault ≡ Store error };
 
     fn from(error: Error) -> StoreFault {
-        match error {
-            Error::SqliteFailure(ErrorCode::DatabaseBusy) => StoreFault::Busy,
-            _ => StoreFault::Store(error),
-        }
+        StoreFault::Store(error)
     }
 }

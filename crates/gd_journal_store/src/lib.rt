@@ -14,8 +14,8 @@
 //! # What the caller does
 //!
 //! - It opens the file, by `sqlite::Connection::open`, which takes SQLite's lock of the file at once and keeps it until the
-//!   connection is dropped. What that refuses becomes a fault by `StoreFault::from`: `Busy` where another process has the
-//!   file. So one process has a journal at a time, and nobody else's pieces come in between.
+//!   connection is dropped, and is refused as busy where another process has it. So one process has a journal at a time, and
+//!   nobody else's pieces come in between.
 //! - It calls `make`, which makes the table in a new file; or it asks `is_journal`, and makes no journal of another file.
 //! - It calls `count`, which reads all pieces once and tests them, and then `pieces` for some of them at a time, as many as
 //!   it wants to hold in memory. From then on it knows the number of the next piece.

@@ -1,15 +1,15 @@
 //! Reading pieces.
 
-ghost use Rattle.std.specs.Prelude.{◌≡◌, ◌+◌, Err, [], List, map, All, length, IsTrue, IfOk, IfErr, OnErr};
+ghost use Rattle.std.specs.Prelude.{◌≡◌, ◌≢◌, ◌≤◌, ◌+◌, ◌^◌, Err, [], ℕ, pos, List, map, length, IsTrue, IfOk, IfErr, OnErr};
 ghost use Rattle.sqlite.specs.Held.{state};
 ghost use Rattle.sqlite.specs.State.{HasCleanDisk, IsUnchanged, Survives};
 ghost use Rattle.sqlite.specs.Order.{column};
 ghost use Rattle.sqlite.specs.declared.types.Value.TheVariants.{Blob};
 ghost use Rattle.gd_journal_store.specs.Table.{journal};
 ghost use Rattle.gd_journal_store.specs.Pieces.{Piece as APiece, numbered, numbered_at, HasPieces, IsSettled, IsRefused, LeavesNoMore};
-ghost use Rattle.gd_journal_store.specs.Rows.{shape, IsOneOf};
+ghost use Rattle.gd_journal_store.specs.Rows.{shape};
 ghost use Rattle.gd_journal_store.specs.Seen.{seen};
-ghost use Rattle.gd_journal_store.specs.Calls.{Counts, IsNotOfTables, Stops, part};
+ghost use Rattle.gd_journal_store.specs.Calls.{Counts, IsOfRows, KeepsFewer, KeepsNone, Stops, part};
 
 use crate::fault::StoreFault;
 use crate::table::expect_journal;
@@ -27,7 +27,7 @@ pub struct Piece {
 /// The bytes of a column.
 fn bytes_at(row: &Row, at: usize) -> Result<&[u8], StoreFault>
     ensures read { IfOk result (λ bytes. column row.now at ≡ Blob bytes.now) }
-    ensures fault { IfErr result IsNotOfTables }
+    ensures fault { IfErr result (IsOfRows ((bytes : List ℕ) → column row.now at ≢ Blob bytes)) }
 {
     match row.get_ref(at)? {
         ValueRef::Blob(bytes) => Ok(bytes),
@@ -38,7 +38,7 @@ fn bytes_at(row: &Row, at: usize) -> Result<&[u8], StoreFault>
 /// The bytes of the row of a piece, which has this number.
 fn bytes_of(row: &Row, number: u32) -> Result<(&[u8], &[u8]), StoreFault>
     ensures read { IfOk result (λ p. shape row.now ≡ numbered_at number (p.0.now, p.1.now)) }
-    ensures fault { IfErr result IsNotOfTables }
+    ensures fault { IfErr result (IsOfRows ((p : APiece) → shape row.now ≢ numbered_at number p)) }
 {
     let found: i64 = row.get(0)?;
     if found != i64::from(number) {
@@ -50,7 +50,7 @@ fn bytes_of(row: &Row, number: u32) -> Result<(&[u8], &[u8]), StoreFault>
 /// The piece of a row, which has this number.
 fn piece_of(alloc: Global, row: &Row, number: u32) -> Result<Piece, StoreFault>
     ensures read { IfOk result (λ p. shape row.now ≡ numbered_at number (seen p)) }
-    ensures fault { IfErr result IsNotOfTables }
+    ensures fault { IfErr result (IsOfRows ((p : APiece) → shape row.now ≢ numbered_at number p)) }
 {
     let (rows, told) = bytes_of(row, number)?;
     match (Vec::from_slice(alloc, rows), Vec::from_slice(alloc, told)) {
@@ -69,32 +69,36 @@ fn count_rows<S: Alter>(conn: &mut Connection<S>) -> Result<u32, StoreFault>
         HasCleanDisk new → conn.old.schema ≡ journal → OnErr result (IsRefused old new) }
     ensures survives { let old = state S.Store conn.old in let new = state S.Store conn.new in
         conn.old.schema ≡ journal → Survives old new (λ _. ⊥) }
-    ensures fault { IfErr result IsNotOfTables }
+    ensures fault { let old = state S.Store conn.old in let new = state S.Store conn.new in
+        HasCleanDisk new → conn.old.schema ≡ journal → IfErr result (IsOfRows (KeepsNone old.now)) }
 {
-    let mut number = 0u32;
     let mut rows = conn.query("SELECT number, rows, told FROM piece ORDER BY number", &[])?;
-    'rows: for _ in 0..u64::MAX {
+    'rows: for number in 0..u32::MAX {
         let Some(row) = rows.next()? else {
             return Ok(number);
         };
-        if number == u32::MAX {
-            return Err(StoreFault::Damaged);
-        }
-        number += 1;
-        bytes_of(row, number)?;
+        bytes_of(row, number + 1)?;
     }
     Err(StoreFault::Damaged)
 }
 
-/// The rows behind this number, up to that one.
-fn rows_between<S: Alter>(
+/// The last of so many numbers behind this one.
+fn last_of(after: u32, count: u32) -> i64
+    ensures { result ≡ pos (after + count) }
+{
+    i64::from(after) + i64::from(count)
+}
+
+/// The rows of so many numbers behind this one.
+fn rows_behind<S: Alter>(
     conn: &mut Connection<S>,
-    after: i64,
-    last: i64,
+    after: u32,
+    count: u32,
 ) -> Result<Vec<Row>, Error>
     ensures shown { let old = state S.Store conn.old in let new = state S.Store conn.new in
         HasCleanDisk new → conn.old.schema ≡ journal → IfOk result (λ rows. ((ps : List APiece)
-        → HasPieces ps old.now.trees → All (IsOneOf ps) (map shape rows.items)) × IsUnchanged old new) }
+        → HasPieces ps old.now.trees → map shape rows.items ≡ numbered (after + 1) (part after count ps))
+        × IsUnchanged old new) }
     ensures refused { let old = state S.Store conn.old in let new = state S.Store conn.new in
         HasCleanDisk new → OnErr result (IsRefused old new) }
     ensures survives { let old = state S.Store conn.old in let new = state S.Store conn.new in
@@ -103,14 +107,15 @@ fn rows_between<S: Alter>(
 {
     conn.query_all(
         "SELECT number, rows, told FROM piece WHERE number > ?1 AND number <= ?2 ORDER BY number",
-        params![after, last],
+        params![after, last_of(after, count)],
     )
 }
 
 /// The pieces of rows, which are numbered on from this number.
 fn all_pieces(alloc: Global, rows: &[Row], after: u32) -> Result<Vec<Piece>, StoreFault>
     ensures read { IfOk result (λ v. map shape rows.now ≡ numbered (after + 1) (map seen v.items)) }
-    ensures fault { IfErr result IsNotOfTables }
+    ensures fault { IfErr result (IsOfRows ((ps : List APiece) → map shape rows.now ≡ numbered (after + 1) ps
+        → 2 ^ 32 ≤ after + length rows.now)) }
 {
     let mut pieces = Vec::new(alloc);
     let mut number = after;
@@ -133,14 +138,15 @@ fn all_pieces(alloc: Global, rows: &[Row], after: u32) -> Result<Vec<Piece>, Sto
 ///
 /// # Errors
 ///
-/// `NotAJournal` where the file is none, `Damaged` where a row is no piece or has another number, and else `Store`.
+/// `NotAJournal` where the file is none, `Damaged` where a row is no piece or has another number, or there are more of them
+/// than can be counted, and else `Store`.
 pub fn count<S: Alter>(conn: &mut Connection<S>) -> Result<u32, StoreFault>
     ensures inside { IsTrue conn.old.in_transaction
         → result ≡ Err (StoreFault.Store (Error.SqliteFailure ErrorCode.TransactionState)) }
     ensures counted { let new = state S.Store conn.new in HasCleanDisk new
         → IfOk result (Counts (state S.Store conn.old) new) }
-    ensures refused { let new = state S.Store conn.new in HasCleanDisk new
-        → IfErr result (Stops (state S.Store conn.old) new) }
+    ensures refused { let old = state S.Store conn.old in let new = state S.Store conn.new in
+        HasCleanDisk new → IfErr result (Stops old new (KeepsNone old.now)) }
     ensures any_moment { let new = state S.Store conn.new in HasCleanDisk new
         → LeavesNoMore (state S.Store conn.old) new }
     ensures clean { HasCleanDisk (state S.Store conn.new) → HasCleanDisk (state S.Store conn.old) }
@@ -168,15 +174,15 @@ pub fn pieces<S: Alter>(
     ensures read { let old = state S.Store conn.old in let new = state S.Store conn.new in
         HasCleanDisk new → (ps : List APiece) → IsSettled ps old
         → IfOk result (λ v. (map seen v.items ≡ part after count ps) × IsSettled ps new) }
-    ensures refused { let new = state S.Store conn.new in HasCleanDisk new
-        → IfErr result (Stops (state S.Store conn.old) new) }
+    ensures whole { IfOk result (λ v. length v.items ≡ count) }
+    ensures refused { let old = state S.Store conn.old in let new = state S.Store conn.new in
+        HasCleanDisk new → IfErr result (Stops old new (KeepsFewer (after + count) old.now)) }
     ensures any_moment { let new = state S.Store conn.new in HasCleanDisk new
         → LeavesNoMore (state S.Store conn.old) new }
     ensures clean { HasCleanDisk (state S.Store conn.new) → HasCleanDisk (state S.Store conn.old) }
 {
     expect_journal(conn)?;
-    let first = i64::from(after);
-    let rows = rows_between(conn, first, first + i64::from(count))?;
+    let rows = rows_behind(conn, after, count)?;
     if rows.len() != count as usize {
         return Err(StoreFault::Damaged);
     }

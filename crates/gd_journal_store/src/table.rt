@@ -108,6 +108,7 @@ pub(crate) fn expect_journal<S: Alter>(conn: &Connection<S>) -> Result<(), Store
         → result ≡ Err (StoreFault.Store (Error.SqliteFailure ErrorCode.TransactionState)) }
     ensures journal { OnOk result (conn.now.schema ≡ journal) }
     ensures foreign { result ≡ Err StoreFault.NotAJournal → conn.now.schema ≢ journal }
+    ensures whole { result ≢ Err StoreFault.Damaged }
     ensures mode { OnOk result (conn.now.in_transaction ≡ false) }
     ensures settled { let now = state S.Store conn.now in OnOk result (IsTrue now.is_open → now.now ≡ now.committed) }
 {

@@ -83,7 +83,7 @@ fn words_of(reply: &Reply) -> Option<&'static str> {
             Some("the archive is of version 1; gasday migrate FILE brings it to today's version")
         }
         Reply::Store => Some(
-            "the archive can't be opened, read or written, or the file is none, or another process writes to it",
+            "the file is of another kind than the command takes, or damaged, or can't be read or written",
         ),
         Reply::Busy => Some("another process has the file; it is free again once that has ended"),
         Reply::Full(_) => Some(

@@ -1,8 +1,9 @@
 use Rattle.std.proofs.Common.{refl}
 use Rattle.std.proofs.lemmas.Result.{IfOk-weaker}
 use Rattle.gasday_part.specs.Answers.{one, no_memory, fault_answer}
+use Rattle.gd_replies.specs.declared.reply.Reply.TheVariants as reply
 use Rattle.gd_text_part.specs.declared.fault.TextFault.TheVariants as fault
-use Rattle.gasday_live.proofs.Running.{told_2, told_store}
+use Rattle.gasday_live.proofs.Running.{told_2}
 use Rattle.gasday_live.proofs.output.tell_failure.Goals as goal
 
 pub returns-in-ReadFailed : goal.returns-in-ReadFailed
@@ -15,4 +16,5 @@ returns-in-OutOfMemory g c = rw c.in-OutOfMemory.is (told_2 _ _ _ (one no_memory
 
 pub returns-in-Store : goal.returns-in-Store
 returns-in-Store g c =
-    rw c.in-Store.is (told_store _ _ _ c.store_row.result c.store_row.ensures (c.write_rows-in-Store.ensures (one c.store_row.result 2) c.of_one.ensures))
+    let answer = one reply.Store 2 in
+    rw c.in-Store.is (told_2 _ _ _ answer refl (c.write_rows-in-Store.ensures answer c.of_one.ensures))

@@ -1,9 +1,11 @@
-use Rattle.std.proofs.Common.{rules, ◌≡◌, ◌+◌, ◌<◌, ◌++◌, ◌∷◌, [], map, length, arith, ap, ◌∙◌, sym}
+use Rattle.std.proofs.Common.{rules, ◌≡◌, ◌+◌, ◌^◌, ◌<◌, ◌≤◌, List, ◌++◌, ◌∷◌, [], map, length, get_or, arith, ap, ◌∙◌, sym}
 use Rattle.std.proofs.lemmas.List.{map-append, length-map}
-use Rattle.gd_journal_store.specs.Pieces.{numbered, numbered_at}
+use Rattle.gd_journal_store.specs.Pieces.{Piece, numbered, numbered_at}
 use Rattle.gd_journal_store.specs.Rows.{shape}
+use Rattle.gd_journal_store.specs.Calls.{IsOfRows}
 use Rattle.gd_journal_store.specs.Seen.{seen}
-use Rattle.gd_journal_store.proofs.Listing.{one_read}
+use Rattle.gd_journal_store.proofs.Listing.{one_read, piece_at}
+use Rattle.gd_journal_store.proofs.Counting.{damage_weaker}
 use Rattle.gd_journal_store.proofs.reading.all_pieces.Goals as goal
 
 pub rows-preserved : goal.rows-preserved
@@ -21,3 +23,13 @@ rows-preserved c =
     let count : length c.push.new.self.items ≡ c.rows.row-index + 1 = search rules in
     let number : c.rows.number + 1 ≡ c.args.after + (c.rows.row-index + 1) = omega (arith, kept.number) in
     record { read = read ∙ ap (numbered (c.args.after + 1)) (sym more); count = count; number = number }
+
+pub returns-in_err-piece-clause-fault : goal.returns-in_err-piece-clause-fault
+returns-in_err-piece-clause-fault c =
+    let kept = c.rows.invariant in
+    let low : c.rows.row-index < length c.args.rows.now = search rules in
+    let number : c.rows.row-index + (c.args.after + 1) ≡ c.rows.number + 1 = omega (arith, kept.number) in
+    let damage = (ps : List Piece) → map shape c.args.rows.now ≡ numbered (c.args.after + 1) ps → 2 ^ 32 ≤ c.args.after + length c.args.rows.now in
+    let told : IsOfRows damage c.in_err-piece.field-0.0 = damage_weaker _ damage _ (λ no ps is.
+    absurd (no _ (piece_at c.args.rows.now c.rows.row-index c.row-item.result (c.args.after + 1) ps low c.row-item.is is ∙ ap (λ n. numbered_at n (get_or ps c.rows.row-index ([], []))) number))) c.in_err-piece.ensures.fault in
+    search rules

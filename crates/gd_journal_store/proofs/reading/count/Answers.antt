@@ -1,5 +1,6 @@
 use Rattle.std.proofs.lemmas.Result.{IfOk-weaker}
 use Rattle.sqlite.specs.Held.{state}
+use Rattle.gd_journal_store.specs.Calls.{KeepsNone}
 use Rattle.gd_journal_store.proofs.Settling.{counts, stops}
 use Rattle.gd_journal_store.proofs.reading.count.Goals as goal
 
@@ -12,5 +13,6 @@ returns-clause-counted g c clean =
 
 pub returns-clause-refused : goal.returns-clause-refused
 returns-clause-refused g c clean =
+    let old = state g.S.Store c.args.conn.now in
     let is = c.in_ok-expect_journal.ensures in
-    stops (state g.S.Store c.args.conn.now) (state g.S.Store c.count_rows.new.conn) c.count_rows.result is.settled c.count_rows.ensures.fault (c.count_rows.ensures.refused clean is.journal)
+    stops (KeepsNone old.now) old (state g.S.Store c.count_rows.new.conn) c.count_rows.result is.settled (c.count_rows.ensures.fault clean is.journal) (c.count_rows.ensures.refused clean is.journal)
