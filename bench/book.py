@@ -3,7 +3,7 @@
 
     bench/book.py TRIAL [--runs N]
 
-TRIAL is the built `gd_book_trials`. It posts 1,000,000 capacities on one book; on another it nominates 20,000 lines ten
+TRIAL is the built `gd_trials`. It posts 1,000,000 capacities on one book; on another it nominates 20,000 lines ten
 times each, freezes and publishes. For as many rows, sqlite3 inserts in one transaction, with a column for each value of the
 call and of its reply.
 

@@ -1,5 +1,5 @@
 #!/usr/bin/env python3
-"""refuse_memory.py PROGRAM TRIAL OFFICE_TRIAL
+"""refuse_memory.py PROGRAM TRIAL
 
 Refuses each allocation of PROGRAM, the built `gasday`, in turn, over a text for each command: it has to print its whole
 answer, or rows at the front of it and perhaps `fault,0,OutOfMemory` (or, for an office, `fault,0,NoThread`), with status 2.
@@ -7,13 +7,11 @@ A command that takes a text and has none here is tried over that of its first ac
 with status 0; a command that isn't tried at all is told, and counts as failed.
 Of the commands on a book's file, whose allocations are thousands, it is each seventh of a live day, and each 23rd of the others.
 
-TRIAL is the built `gd_book_trials`, which makes each call of a book once more where it found no memory. Whichever
+TRIAL is the built `gd_trials`, which makes each call of a book once more where it found no memory. Whichever
 allocation is refused, it has to tell at the refused call what the book and its board told before it, and else what it
-tells with ample memory.
-
-OFFICE_TRIAL is the built `gd_office_trials`, which does the same with the calls of an office, and makes a round of the desks
-once more where a slot has no desk. Such a round has to leave the other slot as with ample memory, and that slot as it was or
-frozen; where no desk is handed back, each slot as it was or as with ample memory.
+tells with ample memory. It does the same with the calls of an office, and makes a round of the desks once more where a slot
+has no desk. Such a round has to leave the other slot as with ample memory, and that slot as it was or frozen; where no desk
+is handed back, each slot as it was or as with ample memory.
 
 The commands with an archive are run once more on the file that they left, with ample memory. What was kept or carried over
 has to be there whole, and what was told as refused not at all. So are those on a book's file; and a live day's file has to be
@@ -447,10 +445,10 @@ def answer_trial(program, library, folder):
 
 
 def main():
-    if len(sys.argv) != 4:
+    if len(sys.argv) != 3:
         print(__doc__.strip())
         return 2
-    program, trial, office_trial = map(os.path.abspath, sys.argv[1:])
+    program, trial = map(os.path.abspath, sys.argv[1:])
     passed = failed = 0
     with tempfile.TemporaryDirectory() as name:
         folder = Path(name)
@@ -460,7 +458,7 @@ def main():
         trials.append(("a broken text in two files", named_trial(program, library, folder), is_front))
         trials.append(("an answer to a question", answer_trial(program, library, folder), is_front))
         trials.append(("a book's day", Trial(library, folder, [trial, "day"], ""), goes_on))
-        trials.append(("an office's calls", Trial(library, folder, [office_trial, "office"], ""), office_goes_on))
+        trials.append(("an office's calls", Trial(library, folder, [trial, "office"], ""), office_goes_on))
         trials.extend(archive_trials(program, library, folder))
         trials.extend(book_trials(program, library, folder))
         tried = {trial.words[1] for _, trial, _ in trials if trial.words[0] == program}

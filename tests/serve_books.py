@@ -325,6 +325,10 @@ def other_files(books, text):
         for words in (("day", "--book", path), ("text", path)):
             got = books.run(*words, text=text)
             books.note(f"{words[0]} on {path.name}: {got}", got == STORE and path.read_bytes() == before)
+    for words in (("audit",), ("audit", "--all"), ("migrate",), ("day", "--archive")):
+        got = books.run(*words, other, text=text)
+        books.note(f"{' '.join(words)} on a text: {got}", got == STORE and other.read_bytes() == text)
+    books.note("nothing is written beside a text", not [it for it in os.listdir(books.folder) if it.startswith(other.name + "-")])
     for words in (("audit", books.folder / "none.book"), ("text", books.folder / "none.book")):
         got = books.run(*words)
         books.note(f"{words[0]} of no file: {got}", got == STORE and not (books.folder / "none.book").exists())

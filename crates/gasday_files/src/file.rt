@@ -14,7 +14,7 @@ use sqlite::{Connection, Error, ErrorCode, FileStore, Unknown};
 use sqlite_disk::{Disk, Start};
 use sqlite_std_file::FileFrom;
 use std::alloc::AllocError;
-use std::fs::{File, metadata};
+use std::fs::{File, canonicalize, metadata};
 use std::io;
 use std::io::{ErrorKind, Read};
 use std::thread::sleep;
@@ -56,6 +56,22 @@ const TRIES: u64 = 10;
 const PAUSE: u64 = 100;
 
 impl<'a, F: Start + Copy> NamedFile<'a, F> {
+    /// The name of a file that isn't one of another kind, or people are told that it is. Such a file isn't opened, since SQLite, which
+    /// would refuse it, would leave an empty log beside it.
+    fn unless_foreign(&self, file: &'a str) -> Option<&'a str>
+        ensures { IfSome result (λ name. name.now ≡ file.now) }
+    {
+        if let Ok(true) = is_foreign(self.rt, file) {
+            tell_unopened(
+                self.rt,
+                file,
+                "it is no database, and so neither an archive nor the file of a book",
+            );
+            return None;
+        }
+        Some(file)
+    }
+
     /// The name of a file that is there and has something, or people are told what is wrong with it.
     fn present(&self, file: &'a str) -> Option<&'a str>
         ensures { IfSome result (λ name. name.now ≡ file.now) }
@@ -63,7 +79,7 @@ impl<'a, F: Start + Copy> NamedFile<'a, F> {
         match metadata(self.rt, file) {
             Ok(found) if found.is_dir() => tell_unopened(self.rt, file, "it is a folder"),
             Ok(found) if found.len() == 0 => tell_unopened(self.rt, file, "it is empty"),
-            Ok(_) => return Some(file),
+            Ok(_) => return self.unless_foreign(file),
             Err(error) => tell_cause(self.rt, file, error.to_string(self.rt.alloc())),
         }
         None
@@ -79,7 +95,7 @@ impl<'a, F: Start + Copy> NamedFile<'a, F> {
             | Order::Office { .. }
             | Order::ArchivedDay { file: "", .. }
             | Order::LiveDay("") => None,
-            Order::ArchivedDay { file, .. } | Order::LiveDay(file) => Some(file),
+            Order::ArchivedDay { file, .. } | Order::LiveDay(file) => self.unless_foreign(file),
             Order::Audit(file)
             | Order::AuditEach(file)
             | Order::Migrate(file)
@@ -170,6 +186,19 @@ pub(crate) fn is_database(rt: &HostRuntime, name: &str) -> io::Result<bool> {
         Ok(()) => Ok(head == MAGIC),
         Err(error) if error.kind() == ErrorKind::UnexpectedEof => Ok(false),
         Err(error) => Err(error),
+    }
+}
+
+/// Whether a file has something and is no database, nor made one by a log beside it. `Ok(false)` of a device or a pipe.
+fn is_foreign(rt: &HostRuntime, name: &str) -> io::Result<bool> {
+    if metadata(rt, name)?.len() == 0 || is_database(rt, name)? {
+        return Ok(false);
+    }
+    let path = canonicalize(rt, name)?;
+    let log = format!(in rt.alloc(); "{}-wal", path.as_str())?;
+    match metadata(rt, log.as_str()) {
+        Ok(_) => Ok(false),
+        Err(error) => Ok(error.kind() == ErrorKind::NotFound),
     }
 }
 

@@ -130,12 +130,21 @@ fn carried(rt: &impl Abort, alloc: Global) -> Vec<(LineKey, Dth)> {
     carried.expect(rt, "memory")
 }
 
-/// A book of this name with both contracts on the gas day 2026-03-08.
-pub(crate) fn book(rt: &impl Abort, alloc: Global, text: &str) -> Book {
+/// A book of this name with both contracts on the gas day 2026-03-08, which these lines are carried over to.
+pub(crate) fn opened(
+    rt: &impl Abort,
+    alloc: Global,
+    text: &str,
+    carried: Vec<(LineKey, Dth)>,
+) -> Book {
     let (contracts, calendar) = (contracts(rt, alloc), calendar(rt, alloc));
-    let carried = carried(rt, alloc);
     made(
         rt,
         Book::open(alloc, name(rt, text), contracts, calendar, carried),
     )
+}
+
+/// The same, with 80 of a line of FIRM in package C.
+pub(crate) fn book(rt: &impl Abort, alloc: Global, text: &str) -> Book {
+    opened(rt, alloc, text, carried(rt, alloc))
 }

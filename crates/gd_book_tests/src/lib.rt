@@ -1,4 +1,4 @@
-//! Worked days of a book by calls; nothing but tests.
+//! Worked days of a book by calls, and offices by calls; nothing but tests.
 #![tactic(auto)]
 
 #[cfg(test)]
@@ -11,6 +11,8 @@ mod calls;
 mod cuts;
 #[cfg(test)]
 mod day;
+#[cfg(test)]
+mod office;
 #[cfg(test)]
 mod quantity;
 #[cfg(test)]

@@ -80,13 +80,23 @@ fn spoiled(alloc: Global, mode: Mode, mut proposal: Proposal) -> Result<Proposal
     Ok(proposal)
 }
 
+/// Whether potentials show the first flow of a network best.
+fn show_first_best(network: &Network<'_>, potentials: &[Tariff]) -> bool {
+    network.known();
+    show_best(network, network.first().amounts(), potentials)
+}
+
+/// Whether the potentials of a proposal show its schedule best.
+fn is_best(alloc: Global, question: &Question, proposal: &Proposal) -> Result<bool, AllocError> {
+    let network = Network::at(alloc, question, &proposal.schedule)?;
+    let shown = show_first_best(&network, proposal.potentials.as_slice());
+    drop(network);
+    Ok(shown)
+}
+
 /// Whether a proposal is right: its schedule is allowed, and its potentials show it best.
 fn passes(alloc: Global, question: &Question, proposal: &Proposal) -> Result<bool, AllocError> {
-    let network = Network::at(alloc, question, &proposal.schedule)?;
-    network.known();
-    let flow = network.first();
-    let shown = show_best::<Tariff>(&network, flow.amounts(), proposal.potentials.as_slice());
-    Ok(shown && proposal.schedule.allowed(alloc, question).is_ok())
+    Ok(is_best(alloc, question, proposal)? && proposal.schedule.allowed(alloc, question).is_ok())
 }
 
 /// What comes of a proposal.
