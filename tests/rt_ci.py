@@ -1,15 +1,17 @@
 """rt_ci.py [--first-build]
 
 Runs `rt ci` in the folder where it is called, as the command itself does, but that what it sums and asks of all crates below a
-crate, along every path to them, is kept: the sums alone come to ten minutes of a processor.
+crate, along every path to them, is kept: the sums alone come to ten minutes of a processor. And what the longest chain of crates
+waits for is begun first by the seconds that proofs took on one machine (proof_seconds.txt), and not by lines, of which crates of
+tests have more than the last crates of the chain together.
 
-With --first-build the order of its work is another: who builds the program waits for the longest chain of crates, each of which
-stands on the one before, while processors idle at its end. So a check has the lower a priority when it begins, the shorter the
-chain is that waits for it beside the longest that is left, by the seconds that proofs took on one machine (proof_seconds.txt);
-where it is nearly as long the crate is checked with two jobs, and a program with four, which takes more processor time in all, and
-less by the clock. Two things are left to the gate: whether there is a contract that no call can meet, which takes time and is no part
-of a proof, and the program of the other compiler. So one command proves the program and compiles it, and the gate takes nothing of
-what a first build keeps, though that takes what a gate has kept.
+With --first-build the order of its work is another still: who builds the program waits for the longest chain of crates, each of
+which stands on the one before, while processors idle at its end. So a check has the lower a priority when it begins, the
+shorter the chain is that waits for it beside the longest that is left; where it is nearly as long the crate is checked with two
+jobs, and a program with four, which takes more processor time in all, and less by the clock. Two things are left to the gate:
+whether there is a contract that no call can meet, which takes time and is no part of a proof, and the program of the other
+compiler. So one command proves the program and compiles it, and the gate takes nothing of what a first build keeps, though that
+takes what a gate has kept.
 """
 
 import os
@@ -37,9 +39,19 @@ FIRST = "-first"
 
 
 def seconds(tasks):
-    """What each task takes of a processor, by what its crate's proof took, or by its lines, which are a task's second part."""
+    """What each task takes of a processor, by what its crate's proof took, or by its lines, which are a task's second part: one of
+    none has nothing to do."""
     measured = {name: int(taken) for name, taken in map(str.split, MEASURED.read_text().splitlines())}
-    return {key: measured.get(key[0], EACH + task[1] // LINES) for key, task in tasks.items()}
+    return {key: measured.get(key[0], EACH + task[1] // LINES) if task[1] else 0 for key, task in tasks.items()}
+
+
+def by_seconds(in_lanes):
+    """Runs tasks as the toolchain does, but that it is told seconds in place of lines."""
+    def run_all(tasks):
+        takes = seconds(tasks)
+        return in_lanes({key: (task[0], takes[key], *task[2:]) for key, task in tasks.items()})
+
+    return run_all
 
 
 def chains(tasks, takes):
@@ -123,6 +135,8 @@ def main():
     rt.Crate.stamp = remembered(rt.Crate.stamp)
     if "--first-build" in sys.argv:
         FirstBuild(rt)
+    else:
+        rt.in_lanes = by_seconds(rt.in_lanes)
     return rt.where_disk_lasts(rt.ci, False)
 
 
