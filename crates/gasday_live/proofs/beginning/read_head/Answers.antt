@@ -8,3 +8,6 @@ returns-clause-head g c =
     let opening = c.in_ok-text.field-0 in
     head_is opening.has_ended c.is_empty-is_whole.result opening.text.items opening.begun.items c.in_ok-text.ensures.opening c.else-has_ended.either (λ whole.
     let zero = eqb-true (vec_len opening.begun) 0 (sym c.is_empty-is_whole.ensures ∙ whole) in nil_from_length opening.begun.items (omega (arith, opening.begun.ok.0, zero)))
+
+pub returns-then-not-is_whole-clause-fault : goal.returns-then-not-is_whole-clause-fault
+returns-then-not-is_whole-clause-fault g c = tt

@@ -20,3 +20,6 @@ returns-clause-kept g c = rw (← c.if-is_nothing.ensures) (λ up ps is at.
 pub returns-clause-any_moment : goal.returns-clause-any_moment
 returns-clause-any_moment g c =
     rw (← c.if-is_nothing.ensures, ← c.as_slice.ensures.value, ← c.as_slice-2.ensures.value) c.append.ensures.any_moment
+
+pub overflow_add-next : goal.overflow_add-next
+overflow_add-next g c = omega arith
