@@ -4,7 +4,8 @@
 Times `gasday day --book` on files in FOLDER (a memory disk, /dev/shm, and a folder beside this script where it isn't named):
 calls that are awaited one by one, blocks of 1,000 rows, and the replay of a million calls that came in blocks and of as many as
 were awaited one by one; beside each sqlite3's own inserts of the same bytes, with one commit a row or a block, on the same disk,
-and beside the replay `day` over the same text. It prints a table for docs/PERFORMANCE.md.
+and beside the replay `day` over the same text; and what a turn through two pipes takes by itself, which each awaited call has and an
+insert hasn't. It prints a table for docs/PERFORMANCE.md.
 """
 
 import os
@@ -42,6 +43,21 @@ def awaited(program, path, count, size):
         run.stdin.write(b"".join(rows[at : at + size]))
         for _ in range(size):
             reader.readline()
+    rate = count / (time.perf_counter() - began)
+    run.stdin.close()
+    run.wait()
+    return rate
+
+
+def turned(count):
+    """Turns a second through two pipes and back by a program that does nothing else, each awaited before the next."""
+    row = calls(1)[0]
+    run = subprocess.Popen(["cat"], stdin=subprocess.PIPE, stdout=subprocess.PIPE, bufsize=0)
+    reader = open(run.stdout.fileno(), "rb", closefd=False)
+    began = time.perf_counter()
+    for _ in range(count):
+        run.stdin.write(row)
+        reader.readline()
     rate = count / (time.perf_counter() - began)
     run.stdin.close()
     run.wait()
@@ -87,11 +103,12 @@ def main():
     print("| Where | What | `gasday` | sqlite3 |\n|---|---|---:|---:|")
     for at in folders:
         with tempfile.TemporaryDirectory(dir=at) as folder:
-            count = 20000 if at == "/dev/shm" else 2000
+            count = 20000 if at == "/dev/shm" else 10000
             rates = awaited(program, f"{folder}/one.book", count, 1), inserted(f"{folder}/one.db", count, 1)
             print(f"| {at} | single calls, each awaited, a second | {rates[0]:,.0f} | {rates[1]:,.0f} |", flush=True)
             rates = awaited(program, f"{folder}/block.book", 1000 * count // 20, 1000), inserted(f"{folder}/block.db", 1000 * count // 20, 1000)
             print(f"| {at} | rows in blocks of 1,000, each awaited, a second | {rates[0]:,.0f} | {rates[1]:,.0f} |", flush=True)
+    print(f"\nA turn through two pipes by itself takes {1e6 / turned(20000):.1f} microseconds.")
     print("\n| A million calls | Seconds | MB |\n|---|---:|---:|")
     with tempfile.TemporaryDirectory(dir=folders[0]) as folder:
         for size, name in ((1000, "in blocks of 1,000"), (1, "one by one")):
