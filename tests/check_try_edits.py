@@ -4,8 +4,8 @@
 Tries `tests/try_edits.py` on crates that are made here: an edit that turns nothing, the same hidden behind another, one that is
 hidden, one that doesn't compile, one that can't be applied, two of definitions; several in one function, of which one turns
 nothing, where that is copied and where it isn't; several of definitions that name laws, of which one turns nothing and two can't
-be read, where the laws are copied and where they aren't; and looks at what it makes of lines that a check may say, and of forms in
-which proofs name their functions. The last line is 'N passed, M failed', and the exit status is 0 only where none failed.
+be read, where the laws are copied and where they aren't; and looks at what it makes of lines that a check may say, of forms in
+which proofs name their functions, and at which bodies it leaves open. The last line is 'N passed, M failed', and the exit status is 0 only where none failed.
 """
 
 import shutil
@@ -17,6 +17,7 @@ from pathlib import Path
 sys.dont_write_bytecode = True
 import try_edits
 from copied_laws import CopiedLaws
+from open_bodies import open_bodies
 
 TOP = Path(__file__).resolve().parent.parent
 
@@ -201,7 +202,7 @@ pub fn two_of_none()
 {}
 """
 CALLING = """\
-//! A law that stands on one of another file.
+//! A law that stands on one of another file, and one that stands on none.
 
 ghost use Rattle.std.specs.Prelude.{◌≡◌};
 ghost use Rattle.lawful.specs.Doubled.{doubled};
@@ -214,10 +215,15 @@ pub fn next_to_none()
 {
     two_of_none();
 }
+
+/// Four is twice two.
+pub fn two_of_two()
+    ensures { doubled 2 ≡ 4 }
+{}
 """
 FILES = {
     "crates.txt": "tried:\ntwice:\nlawful:\n",
-    "crates/lawful/src/lib.rt": "//! For a trial of must-fail edits.\n#![tactic(auto)]\n\nmod calls;\nmod laws;\nmod numbers;\n\npub use calls::next_to_none;\n"
+    "crates/lawful/src/lib.rt": "//! For a trial of must-fail edits.\n#![tactic(auto)]\n\nmod calls;\nmod laws;\nmod numbers;\n\npub use calls::{next_to_none, two_of_two};\n"
                                 "pub use laws::{\n    three_of_a_number, two_of_a_number,\n};\npub use numbers::{Digit, two_of_none};\n",
     "crates/lawful/src/laws.rt": LAWS,
     "crates/lawful/src/numbers.rt": BESIDE_A_TYPE,
@@ -285,10 +291,11 @@ NAMED = {
 }
 
 # The law and the file of an edit of a definition, and whether it is tried in a copy: not with a law in a file with types, of which
-# there would be others, or which calls other files' functions, nor where a type carries what the edit turns, nor where it turns
+# there would be others, or that may call other files' functions, nor where a type carries what the edit turns, nor where it turns
 # anything but definitions and lemmas.
 COPIED = {
     ("next_to_none", "specs/Doubled.antt"): False,
+    ("two_of_two", "specs/Doubled.antt"): True,
     ("two_of_a_number", "specs/Doubled.antt"): True,
     ("laws::three_of_a_number", "specs/Tripled.antt"): True,
     ("numbers::three_of_a_number", "specs/Tripled.antt"): False,
@@ -306,6 +313,23 @@ FORMS = {
     ("use Rattle.twice.proofs.counting.{ones}\n", ""): False,
     ("use Rattle.twice.proofs.counting.ones.Goals as goal\n\npub returns-ones : goal.returns-ones\n", ""): True,
     ("use Rattle.twice.proofs.other.ones.Goals as goal\n", ""): False,
+    ("-- All ones.\nuse Rattle.twice.proofs.counting.ones.Goals as goal\n\nreturns g c = f (g c).ones c.of.ones c.ones\n", ""): True,
+    ("use Rattle.twice.proofs.counting as all\nuse all.ones\n", ""): False,
+    ("use Rattle.twice.proofs.counting as all\n\nreturns g c = all.ones.Goals.returns\n", ""): False,
+}
+
+# The functions of crates of the trial whose bodies may be left open where an edit turns `next`, and what another file of proofs says,
+# and whether that of `zeros` may not.
+OPEN = {"tried": {"larger", "second_next", "third_next"}, "twice": {"counting/zeros", "counting/ones", "counting/Low/next"}}
+CITES_ZEROS = {
+    "use Rattle.twice.proofs.counting.zeros.Met\n": True,
+    "use Rattle.twice.proofs.counting.{zeros}\n": True,
+    "use Rattle.twice.proofs.counting as counting\n": True,
+    "use Rattle.twice.proofs.{counting}\n": True,
+    "use Rattle.twice.proofs.counting.zeros_more.Met\n": False,
+    "use Rattle.twice.proofs.Zeros.{zeros}\n": False,
+    "use Rattle.twice.specs.counting.zeros\n": False,
+    "use Rattle.tried.proofs.counting.zeros.Met\n": False,
 }
 
 # Lines that a check says of a function, and whether they refuse it, hide it or can be read.
@@ -381,6 +405,20 @@ def of_forms(folder):
     return faults, len(FORMS)
 
 
+def of_open(folder):
+    """What is wrong with which bodies are left open."""
+    def opened(crate):
+        turned = {f"{crate}::next", f"{crate}::counting::next"}
+        return {"/".join(proof.parts[1:]) for _, _, proof in open_bodies(crate, folder / f"crates/{crate}", turned)}
+
+    faults = [f"{crate}: {opened(crate)}, and not {wanted}" for crate, wanted in OPEN.items() if opened(crate) != wanted]
+    for text, is_cited in CITES_ZEROS.items():
+        (folder / "crates/twice/proofs/Lemmas.antt").write_text(text)
+        if ("counting/zeros" not in opened("twice")) != is_cited:
+            faults.append(f"{text}: {not is_cited}, and not {is_cited}")
+    return faults, len(OPEN) + len(CITES_ZEROS)
+
+
 def of_lines():
     """What is wrong with how lines of a check are read."""
     function, faults = try_edits.Function("tried", "next"), []
@@ -394,7 +432,7 @@ def of_lines():
 
 def main():
     with tempfile.TemporaryDirectory(prefix="gasday-edits-trial-") as folder:
-        results = [of_lines(), of_forms(Path(folder)), of_edits(Path(folder)), of_copies(Path(folder))]
+        results = [of_lines(), of_forms(Path(folder)), of_edits(Path(folder)), of_copies(Path(folder)), of_open(Path(folder))]
     faults, tried = [it for found, _ in results for it in found], sum(count for _, count in results)
     for it in faults:
         print(f"FAIL {it}")

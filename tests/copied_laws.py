@@ -3,8 +3,8 @@ for these edits: one check of all copies tells of all edits, and may try other t
 
 A copy has the modules that an edit turns and those that stand on them, under other names, which end in a number, and the file of
 the law, whose clauses are read in these modules. Copy number 1 has no edit, and the modules of all the others: where its law isn't
-proved, these show nothing. Nor would they where a law stood on copies and on what they are copies of, so one that calls functions
-of other files isn't copied, nor one that stands on what a type carries.
+proved, these show nothing. Nor would they where a law stood on copies and on what they are copies of, so one that may call
+functions of other files isn't copied, nor one that stands on what a type carries.
 """
 
 import dataclasses
@@ -21,8 +21,10 @@ OF_A_ROOT = re.compile(r"^(?:#!\[.*|(?:pub )?mod \w+;|pub use [^;]*;)\n", re.M)
 FUNCTIONS = re.compile(r"^(?:pub(?:\([a-z]+\))? )?fn (\w+)", re.M)
 # What a type or a trait's impl carries with it, as an invariant.
 CARRIED = re.compile(r"^ +ghost \w+ = \{.*?\};$", re.M | re.S)
-# What a file has that isn't one of laws alone. (A copy of a type is another type.)
-OTHERS = re.compile(r"^(?:(?:pub(?:\([a-z]+\))? )?(?:struct|enum|union|trait|impl|static|macro_rules!)|use (?:crate|super))\b", re.M)
+# What a file has that isn't one of functions alone. (A copy of a type is another type.)
+OTHERS = re.compile(r"^(?:pub(?:\([a-z]+\))? )?(?:struct|enum|union|trait|impl|static|macro_rules!)\b", re.M)
+# What brings functions of other files to a file.
+CALLED = re.compile(r"^use (?:crate|super)\b", re.M)
 
 
 def read(path):
@@ -122,11 +124,17 @@ class LawTwin:
         write(Path(to, ROOT), f"{read(Path(to, ROOT)).rstrip()}\n\nmod {self.module};\n")
 
 
+def is_apart(text, law):
+    """Whether a file with this text has functions alone, and the law calls none of another file."""
+    body = re.search(rf"\bfn {law}\b.*?^(\{{.*?)$", text, re.M | re.S)[1]
+    return not OTHERS.search(text) and (not CALLED.search(text) or body == "{}")
+
+
 def place_of(folder, law):
-    """The file of a law and its own name, by what it is called. None where no file of laws alone has it, or several have."""
+    """The file of a law and its own name, by what it is called. None where no file has it in which it stands apart, or several have."""
     *inside, own = law.split("::")
     files = [it for it in Path(folder, "src").glob("*.rt") if own in FUNCTIONS.findall(read(it)) and inside in ([], [it.stem])]
-    return (f"src/{files[0].name}", own) if len(files) == 1 and not OTHERS.search(read(files[0])) else None
+    return (f"src/{files[0].name}", own) if len(files) == 1 and is_apart(read(files[0]), own) else None
 
 
 class CopiedLaws:

@@ -7,13 +7,14 @@ since what is owed of a function rests on its own body and on the contracts of t
 function, the first turns that, and each further one a copy of it under another name, with copies of its proof's files. Where a
 proof may be named in a form that copying leaves as it is, a copy without any edit stands beside these, and only where no goal
 of that is refused what is told of the others counts. That check doesn't go on past what is open, and only shows that edits are
-refused; the others, and those whose function isn't copied, go to a round that says why. An edit that is told there only to call
-a function that isn't proved goes to the next round; what isn't clearly refused is tried alone and from nothing, as `rt
-must-fail` does, and so is an edit that turns more than bodies. Edits of definitions for which must-fail/refused-by.md has a
-line `- EDIT: LAW`, with a law that must be refused, are tried in the same check, or in one of their own where the crate has
-none of bodies, each in copies of the definitions and of that law (copied_laws.py); what isn't refused there is tried by that
-law in the crate itself. What other edits of definitions turn is read anew over what a check of the crate as it stands has
-proved, or from nothing where there is one alone. A line that names no edit fails.
+refused; bodies of functions that no edit turns are left open in it (open_bodies.py). The other edits, and those whose function
+isn't copied, go to a round that says why. An edit that is told there only to call a function that isn't proved goes to the
+next round; what isn't clearly refused is tried alone and from nothing, as `rt must-fail` does, and so is an edit that turns more
+than bodies. Edits of definitions for which must-fail/refused-by.md has a line `- EDIT: LAW`, with a law that must be refused,
+are tried in the same check, or in one of their own where the crate has none of bodies, each in copies of the definitions and of
+that law (copied_laws.py); what isn't refused there is tried by that law in the crate itself. What other edits of definitions
+turn is read anew over what a check of the crate as it stands has proved, or from nothing where there is one alone. A line that
+names no edit fails.
 
 --libraries names a copy of the repository in whose crates/*/out the libraries stand that `rt ci` has just built of the same
 files; without it they are built as `rt must-fail` builds them. With --beside that `rt ci` is still at work: LOG is what it has
@@ -37,14 +38,14 @@ from concurrent.futures import FIRST_COMPLETED, ThreadPoolExecutor, wait
 from pathlib import Path
 
 from copied_laws import AGAIN, CopiedLaws
+from functions import FUNCTION, IMPL, body_from, is_tactic, place_at
 from lanes import ROOM, lanes
+from open_bodies import NO_PROOF, open_bodies
 from toolchain import toolchain
 
 ONE_JOB = ["--jobs", "1"]
-# The head of a function, and that of an impl, as `rt fmt` lays them out.
-FUNCTION = re.compile(r"( *)(?:pub(?:\([a-z]+\))? )?(?:const )?(?:unsafe )?fn (\w+)")
-IMPL = re.compile(r"impl(<.*?>)? (?:(.+?) for )?(.+?)(?: where| \{|$)")
-CLAUSE = re.compile(r"\s*(requires|ensures|ghost)\b")
+# A line of a proof that says nothing to the prover.
+COMMENT = re.compile(r"^--.*", re.M)
 # What a check says of a function: first the places where its goals are left, then its line.
 GOAL = re.compile(r"note: src/\S+:\d+:\d+: it is not proved that ")
 TOLD = re.compile(r"fn (\S+): (.*)")
@@ -132,18 +133,11 @@ class Verdict:
         return f"{self.edit}: {'refused' if self.is_refused else 'FAILED'}{later}: {self.why[:200]}"
 
 
-def is_tactic(line):
-    """Whether this is an attribute that only says how a function is proved, in one line."""
-    return line.lstrip().startswith("#[tactic(") and line.endswith(")]")
-
-
-def body_from(lines, head):
-    """The line at which the body begins of the function whose head stands at this line."""
-    indent = FUNCTION.match(lines[head])[1]
-    for at in range(head, len(lines)):
-        if lines[at] == indent + "{" or lines[at].endswith(" {") and not CLAUSE.match(lines[at]):
-            return at
-    return len(lines)
+def without(field, text):
+    """A text without what a pattern finds behind its first group, however often it does in a line."""
+    while field.search(text):
+        text = field.sub(r"\1", text)
+    return text
 
 
 def spelled(type_name, variables):
@@ -160,16 +154,6 @@ def owner(lines, head):
             variables = re.findall(r"(?:const )?(\w+)(?:: [^,>]*)?", (found[1] or "<>")[1:-1])
             return f"{spelled(found[3], variables)}{spelled(found[2] or '', variables)}::"
     return ""
-
-
-def place_at(lines, at):
-    """The lines at which the function begins and ends in whose body the line stands, or None."""
-    head = next((it for it in range(at, -1, -1) if FUNCTION.match(lines[it])), None)
-    if head is None or body_from(lines, head) >= at:
-        return None
-    indent = FUNCTION.match(lines[head])[1]
-    end = next((it for it in range(body_from(lines, head), len(lines)) if lines[it] == indent + "}"), len(lines))
-    return (head, end) if at <= end else None
 
 
 def function_at(crate, path, lines, at):
@@ -243,9 +227,11 @@ class Twin:
         *before, name = map(re.escape, own.relative_to(Path(folder, "proofs")).parts)
         path = "".join(rf"\.{it}" for it in before)
         inside, outside = re.compile(rf"(\bproofs{path}\.)?(?<![\w-]){name}(?![\w-])(\.)?"), re.compile(rf"{path}\.{name}\b")
+        # (a field of that name, which is no module, as nothing follows it, and not in a line that brings names)
+        field = re.compile(rf"^((?!use ).*[\w)])\.{name}(?![\w.-])", re.M)
 
         def is_copied(file):
-            text = file.read_text(encoding="utf-8")
+            text = without(field, COMMENT.sub("", file.read_text(encoding="utf-8")))
             return all(all(it.groups()) for it in inside.finditer(text)) if own in file.parents else not outside.search(text)
 
         return all(is_copied(file) for part in ("proofs", "specs") for file in Path(folder, part).rglob("*.antt"))
@@ -371,16 +357,16 @@ class Room:
     def __exit__(self, *_):
         shutil.rmtree(self.folder, ignore_errors=True)
 
-    def lay(self, edits, twins):
-        """Lays the crate's files anew, with these edits and copies of functions in them."""
+    def lay(self, edits, twins, has_all):
+        """Lays the crate's files anew, with these edits and copies of functions in them, and with all bodies or those that edits turn."""
         shutil.rmtree(self.copy, ignore_errors=True)
         for part in RT.rtlib.PARTS:
             if os.path.isdir(f"{self.crate.folder}/{part}"):
                 shutil.copytree(f"{self.crate.folder}/{part}", f"{self.copy}/{part}")
-        changed = {}
-        for edit in edits:
-            for file, lines in edit.lines.items():
-                changed.setdefault(file, {}).update(lines)
+        changed, turned = {}, {it.path for edit in edits for it in edit.functions}
+        opened = [] if has_all else [*open_bodies(self.crate.name, self.crate.folder, turned)]
+        for file, lines in [*((file, lines) for file, lines, _ in opened), *(it for edit in edits for it in edit.lines.items())]:
+            changed.setdefault(file, {}).update(lines)
         for file, lines in changed.items():
             place = Path(self.copy, file)
             text = place.read_text(encoding="utf-8").split("\n")
@@ -390,11 +376,20 @@ class Room:
             text, behind = place.read_text(encoding="utf-8").split("\n"), twin.place[1] + 1
             place.write_text("\n".join([*text[:behind], *twin.text(whole), *text[behind:]]), encoding="utf-8")
             twin.lay(self.copy)
+        self.leave_open(opened)
+
+    def leave_open(self, opened):
+        """Leaves no proof of functions whose bodies are left open."""
+        for _, _, proof in opened:
+            for folder in (proof, proof.with_name("fn") / proof.name):
+                shutil.rmtree(Path(self.copy, folder), ignore_errors=True)
+            Path(self.copy, proof).mkdir(parents=True)
+            Path(self.copy, proof, "Proof.antt").write_text(NO_PROOF, encoding="utf-8")
 
     def check(self, edits, paths, keeps, twins=(), laws=None, goes_on=True):
         """What a check of these functions, with these edits and copies of functions, and of the copies of laws says. One that goes on
-        past what is open says most of it, and takes longer."""
-        self.lay(edits, twins)
+        past what is open says most of it, and takes longer; the other one looks at no body that isn't turned."""
+        self.lay(edits, twins, has_all=goes_on)
         if laws:
             laws.lay(self.copy)
             paths = [*paths, *laws.functions()]
