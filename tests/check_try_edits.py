@@ -1,11 +1,12 @@
 #!/usr/bin/env python3
 """check_try_edits.py
 
-Tries `tests/try_edits.py` on crates that are made here: an edit that turns nothing, the same hidden behind another, one that is
-hidden, one that doesn't compile, one that can't be applied, two of definitions; several in one function, of which one turns
-nothing, where that is copied and where it isn't; several of definitions that name laws, of which one turns nothing and two can't
-be read, where the laws are copied and where they aren't; and looks at what it makes of lines that a check may say, of forms in
-which proofs name their functions, and at which bodies it leaves open. The last line is 'N passed, M failed', and the exit status is 0 only where none failed.
+Tries `tests/try_edits.py` on crates that are made here: an edit that turns nothing, the same hidden behind another and behind a
+body that is left open, one that is hidden, one that doesn't compile, one that can't be applied, two of definitions; several in
+one function, of which one turns nothing, where that is copied and where it isn't; several of definitions that name laws, of
+which one turns nothing and two can't be read, where the laws are copied and where they aren't; and looks at what it makes of
+lines that a check may say, of forms in which proofs name their functions, and at which bodies it leaves open. The last line is
+'N passed, M failed', and the exit status is 0 only where none failed.
 """
 
 import shutil
@@ -122,6 +123,20 @@ pub fn next(low: &Low) -> u16
     low.next()
 }
 
+/// The same number. No edit turns it.
+pub fn same(n: u64) -> u64
+    ensures { result ≡ n }
+{
+    n
+}
+
+/// The same number.
+pub fn same_again(n: u64) -> u64
+    ensures { result ≡ n }
+{
+    same(same(n))
+}
+
 /// The same number.
 pub struct High {
     pub number: u8,
@@ -233,7 +248,7 @@ FILES = {
     "crates/lawful/specs/Doubled.antt": "use Rattle.std.specs.Prelude.{ℕ, ◌+◌}\n\nabbrev pub doubled : ℕ → ℕ\ndoubled n = n + n\n",
     "crates/lawful/specs/Tripled.antt": "use Rattle.std.specs.Prelude.{ℕ, ◌+◌}\nuse Rattle.lawful.specs.Doubled.{doubled}\n\n"
                                         "abbrev pub tripled : ℕ → ℕ\ntripled n = doubled n + n\n",
-    "crates/twice/src/lib.rt": "//! For a trial of must-fail edits.\n#![tactic(auto)]\n\nmod counting;\n\npub use counting::{High, Low, next, ones, zeros};\n",
+    "crates/twice/src/lib.rt": "//! For a trial of must-fail edits.\n#![tactic(auto)]\n\nmod counting;\n\npub use counting::{\n    High, Low, next, ones, same, same_again, zeros,\n};\n",
     "crates/twice/src/counting.rt": COUNTING,
     "crates/twice/proofs/counting/ones/Invariants.antt": NAMED_OTHERWISE,
     "crates/twice/proofs/counting/zeros/Invariants.antt": INVARIANT,
@@ -261,6 +276,8 @@ EDITS = {
     "twice/each_one_is_two": ("src/counting.rt", "            many += 1;", "            many += 2;", "refused: "),
     "twice/next_but_one": ("src/counting.rt", "u16::from(self.number) + 1", "u16::from(self.number) + 2", "refused: "),
     "twice/nothing_behind_the_next": ("src/counting.rt", "    low.next()", "    low.next() + 0", "FAILED in round 2: the crate is still proved"),
+    "twice/nothing_behind_the_same": ("src/counting.rt", "    same(same(n))", "    same(same(n + 0))", "FAILED in round 2: the crate is still proved"),
+    "twice/one_half_behind_the_same": ("src/counting.rt", "    same(same(n))", "    same(same(n)) / 2", "refused: "),
     "twice/one_behind_the_next": ("src/counting.rt", "    low.next()", "    low.next() + 1", "refused: "),
     "twice/no_next": ("src/counting.rt", "u16::from(self.number) + 1", "u16::from(self.number)", "refused: "),
     "twice/half": ("src/counting.rt", "High { number: low.number }", "High { number: low.number / 2 }", "refused: "),
@@ -320,7 +337,10 @@ FORMS = {
 
 # The functions of crates of the trial whose bodies may be left open where an edit turns `next`, and what another file of proofs says,
 # and whether that of `zeros` may not.
-OPEN = {"tried": {"larger", "second_next", "third_next"}, "twice": {"counting/zeros", "counting/ones", "counting/Low/next"}}
+OPEN = {
+    "tried": {"larger", "second_next", "third_next"},
+    "twice": {"counting/zeros", "counting/ones", "counting/Low/next", "counting/same", "counting/same_again"},
+}
 CITES_ZEROS = {
     "use Rattle.twice.proofs.counting.zeros.Met\n": True,
     "use Rattle.twice.proofs.counting.{zeros}\n": True,

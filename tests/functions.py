@@ -5,7 +5,6 @@ import re
 # The head of a function, and that of an impl.
 FUNCTION = re.compile(r"( *)(?:pub(?:\([a-z]+\))? )?(?:const )?(?:unsafe )?fn (\w+)")
 IMPL = re.compile(r"impl(<.*?>)? (?:(.+?) for )?(.+?)(?: where| \{|$)")
-CLAUSE = re.compile(r"\s*(requires|ensures|ghost)\b")
 
 
 def is_tactic(line):
@@ -19,7 +18,8 @@ def body_from(lines, head):
     for at in range(head, len(lines)):
         if lines[at] == indent + "{}":
             break
-        if lines[at] == indent + "{" or lines[at].endswith(" {") and not CLAUSE.match(lines[at]):
+        # (a line within a clause begins further to the right than the head)
+        if lines[at] == indent + "{" or re.match(rf"{indent}\S.* \{{$", lines[at]):
             return at
     return len(lines)
 

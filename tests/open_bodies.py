@@ -10,8 +10,9 @@ from pathlib import Path
 
 from functions import FUNCTION, body_from, is_tactic
 
-# The head of an impl of a type's own functions, and of anything else that functions stand in.
-OF_TYPE = re.compile(r"impl(?:<.*?>)? (\w+)(?:<[^>]*>)? \{$")
+# The head of an impl of a type's own functions, where the type takes nothing but lifetimes, which are no part of a name, and of
+# anything else that functions stand in.
+OF_TYPE = re.compile(r"impl(?:<'[^>]*>)? (\w+)(?:<'[^>]*>)? \{$")
 OF_OTHERS = re.compile(r"(?:impl\b|extern\b|(?:pub(?:\([a-z]+\))? )?(?:unsafe )?(?:trait\b|mod \w+ \{))")
 TYPE = re.compile(r"^(?:pub(?:\([a-z]+\))? )?(?:struct|enum|union) (\w+)", re.M)
 # What a function's head may have whose body others read: a type that it alone tells, and a value that is computed of it.
