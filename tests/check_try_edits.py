@@ -436,7 +436,10 @@ def of_open(folder):
         (folder / "crates/twice/proofs/Lemmas.antt").write_text(text)
         if ("counting/zeros" not in opened("twice")) != is_cited:
             faults.append(f"{text}: {not is_cited}, and not {is_cited}")
-    return faults, len(OPEN) + len(CITES_ZEROS)
+    (folder / "crates/tried/src/larger.rt").write_text("//! A module of a function's name.\n")
+    if "larger" in opened("tried"):
+        faults.append("larger: its proof is taken for that of a module of its name")
+    return faults, len(OPEN) + len(CITES_ZEROS) + 1
 
 
 def of_lines():

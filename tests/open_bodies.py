@@ -2,7 +2,9 @@
 
 What is owed of a function rests on the contracts of those that it calls and not on their bodies, which the gate proves elsewhere. So
 a copy of the crate may have one that never ends in the place of each of these, with no proof; what only these call isn't looked
-at either. Left as they are those of traits' methods, on which a type's laws stand, and of what another proof may name.
+at either. Left as they are those of traits' methods, on which a type's laws stand, of methods of types with other parameters than
+lifetimes, whose names say these, of functions whose heads say that others may read their bodies, and of what another proof may name
+or stand beside.
 """
 
 import re
@@ -47,7 +49,7 @@ def is_plain(lines, head):
 def functions_of(texts):
     """The functions whose bodies may be left open as far as their files say: each as its file, the parts of its name below the
     crate, and the lines of its body."""
-    types = types_of(texts)
+    types, modules = types_of(texts), [tuple(module_of(it)) for it in texts]
     for file, text in texts.items():
         inside, lines = None, text.split("\n")
         for at, line in enumerate(lines):
@@ -57,7 +59,9 @@ def functions_of(texts):
             elif head and head[2] != "main" and (not head[1] or inside in types) and is_plain(lines, at):
                 parts = (*types[inside], inside, head[2]) if head[1] else (*module_of(file), head[2])
                 begin = body_from(lines, at) + 1
-                yield file, parts, range(begin, lines.index(head[1] + "}", begin))
+                # (the proofs of a module of that name would stand in the same folder)
+                if not any(it[: len(parts)] == parts for it in modules):
+                    yield file, parts, range(begin, lines.index(head[1] + "}", begin))
 
 
 def named_in(crate, texts):
