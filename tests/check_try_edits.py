@@ -172,8 +172,14 @@ LAWS = """\
 //! What follows from the definitions.
 
 ghost use Rattle.std.specs.Prelude.{◌≡◌, ◌+◌, ℕ};
+ghost use Rattle.lawful.specs.Digits.{is_digit};
 ghost use Rattle.lawful.specs.Doubled.{doubled};
 ghost use Rattle.lawful.specs.Tripled.{tripled};
+
+/// Nine is a digit.
+pub fn nine_is_a_digit()
+    ensures { is_digit 9 }
+{}
 
 /// A number and itself.
 pub fn two_of_a_number()
@@ -239,7 +245,7 @@ pub fn two_of_two()
 FILES = {
     "crates.txt": "tried:\ntwice:\nlawful:\n",
     "crates/lawful/src/lib.rt": "//! For a trial of must-fail edits.\n#![tactic(auto)]\n\nmod calls;\nmod laws;\nmod numbers;\n\npub use calls::{next_to_none, two_of_two};\n"
-                                "pub use laws::{\n    three_of_a_number, two_of_a_number,\n};\npub use numbers::{Digit, two_of_none};\n",
+                                "pub use laws::{\n    nine_is_a_digit, three_of_a_number, two_of_a_number,\n};\npub use numbers::{Digit, two_of_none};\n",
     "crates/lawful/src/laws.rt": LAWS,
     "crates/lawful/src/numbers.rt": BESIDE_A_TYPE,
     "crates/lawful/src/calls.rt": CALLING,
@@ -308,8 +314,8 @@ NAMED = {
 }
 
 # The law and the file of an edit of a definition, and whether it is tried in a copy: not with a law in a file with types, of which
-# there would be others, or that may call other files' functions, nor where a type carries what the edit turns, nor where it turns
-# anything but definitions and lemmas.
+# there would be others, or that may call other files' functions, or that speaks of what a type carries and the edit turns, or of
+# nothing that it turns, nor where it turns anything but definitions and lemmas.
 COPIED = {
     ("next_to_none", "specs/Doubled.antt"): False,
     ("two_of_two", "specs/Doubled.antt"): True,
@@ -317,7 +323,8 @@ COPIED = {
     ("laws::three_of_a_number", "specs/Tripled.antt"): True,
     ("numbers::three_of_a_number", "specs/Tripled.antt"): False,
     ("two_of_none", "specs/Doubled.antt"): False,
-    ("two_of_a_number", "specs/Digits.antt"): False,
+    ("nine_is_a_digit", "specs/Digits.antt"): False,
+    ("two_of_two", "specs/Digits.antt"): False,
     ("two_of_a_number", "src/laws.rt"): False,
 }
 
