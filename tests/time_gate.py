@@ -30,7 +30,7 @@ BETWEEN = 300
 # Processor minutes for all proofs, tests and edits, and how much more fails the report.
 BUDGET, MORE = 255, 1.2
 # Of these minutes 25 are for the book of a file: for these crates, and for its tests, which stand in gasday_tests beside others.
-LIVE, FOR_LIVE = ("gd_text_lines", "gd_journal_store", "gd_serving", "gd_live", "gd_rounds", "gasday_live"), 25
+LIVE, FOR_LIVE = ("gd_journal_store", "gd_serving", "gd_live", "gd_rounds", "gasday_live"), 25
 # What proofs took in the run that docs/PERFORMANCE.md has as a table, in seconds, by crate.
 MEASURED = Path(__file__).with_name("proof_seconds.txt")
 TICK = os.sysconf("SC_CLK_TCK")

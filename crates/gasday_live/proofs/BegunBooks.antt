@@ -11,7 +11,7 @@ use Rattle.gd_journal_store.specs.Calls.{Counts}
 use Rattle.gd_journal_store.specs.Pieces.{Piece, Keeps, IsSettled, HasPieces, LeavesOr, LeavesNoMore}
 use Rattle.gd_journal_store.specs.Table.{no_schema, journal}
 use Rattle.gd_live.specs.Stands.{Stand}
-use Rattle.gd_text_lines.specs.Openings.{IsOpening}
+use Rattle.gd_live.specs.Openings.{IsOpening}
 use Rattle.gasday_live.specs.Books.{OpensSo, stand_behind, Stands}
 use Rattle.gasday_live.specs.Runs.{KeptNone, IsHead, Begins, LeavesFront}
 use Rattle.gasday_live.proofs.Opened.{opened_so}

@@ -8,7 +8,7 @@ use Rattle.gd_text_part.specs.declared.fault.TextFault.TheVariants as fault
 use Rattle.gd_text_part.specs.declared.kind.Form.TheVariants as form
 use Rattle.gd_text_part.specs.declared.row.Row.{Row}
 use Rattle.gd_text_part.specs.declared.row.Row.TheVariants as row
-use Rattle.gd_text_lines.specs.Lines.{IsClosed}
+use Rattle.gd_live.specs.TextLines.{IsClosed}
 use Rattle.gd_book.specs.Kept.{Kept}
 use Rattle.gd_day.specs.Calls.{calls_after, calls_of, event_of}
 use Rattle.gd_machine.specs.Day.{Day}

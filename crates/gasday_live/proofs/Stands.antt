@@ -1,7 +1,7 @@
 -- What lines leave as it was.
 use Rattle.std.proofs.Common.{◌≡◌, inl, inr, ℕ, List, [], ◌∷◌, refl, ap, ◌∙◌, arith}
 use Rattle.gd_text_part.specs.Lines.{bare}
-use Rattle.gd_text_lines.proofs.AmongCalls.{opening_among}
+use Rattle.gd_live.proofs.AmongCalls.{opening_among}
 use Rattle.gd_serving.specs.Yields.{Yield, LinesGive}
 use Rattle.gd_live.specs.Lines.{RowDoes, BareGives, Gives, counted}
 use Rattle.gd_live.specs.Stands.{Stand, IsGroup, no_group}

@@ -15,7 +15,7 @@ use Rattle.gd_text_part.specs.declared.fault.TextFault.{TextFault}
 use Rattle.gd_text_part.specs.declared.fault.TextFault.TheVariants as fault
 use Rattle.gd_text_part.specs.declared.kind.Form.TheVariants as form
 use Rattle.gd_text_part.specs.declared.row.Row.{Row}
-use Rattle.gd_text_lines.specs.Openings.{IsOpening, HasLongOpening}
+use Rattle.gd_live.specs.Openings.{IsOpening, HasLongOpening}
 use Rattle.gd_serving.specs.Lines.{cut}
 use Rattle.gd_serving.specs.Runs.{EndsAs, AreOf, HasKept}
 use Rattle.gd_serving.specs.Yields.{Yield, LinesGive, told_of}

@@ -2,7 +2,7 @@
 use Rattle.std.specs.Prelude.{◌≡◌, ◌≢◌, ◌⊎◌, ℕ, ◌+◌, List, [], length, take, Ok, Err}
 use Rattle.csv.specs.Reading.{strip_bom}
 use Rattle.gd_day.specs.Calls.{calls_of}
-use Rattle.gd_text_lines.specs.Lines.{IsClosed}
+use Rattle.gd_live.specs.TextLines.{IsClosed}
 use Rattle.gd_text_part.specs.Texts.{Tells, rows_of}
 use Rattle.gd_text_part.specs.declared.fault.Cause.TheVariants as cause
 use Rattle.gd_text_part.specs.declared.fault.TextFault.{TextFault}

@@ -3,8 +3,10 @@
 ghost use Rattle.gasday_live.specs.Books.{BooksGrow};
 ghost use Rattle.gasday_live.specs.Texts.{BooksAreDays, KeptBooksAreDays, ServedBooksAreDays};
 
-use gd_live::{calls_follow_their_opening, calls_go_on, what_is_kept_are_calls};
-use gd_text_lines::{lines_follow_a_text, row_lines_are_plain};
+use gd_live::{
+    calls_follow_their_opening, calls_go_on, lines_follow_a_text, row_lines_are_plain,
+    what_is_kept_are_calls,
+};
 
 /// What is kept of lines on a book where no row waits makes it a longer one.
 pub(crate) fn a_book_grows()

@@ -12,8 +12,7 @@ ghost use Rattle.gasday_live.specs.Unopened.{OpensNone};
 use gasday_part::{NoBook, open_book};
 use gd_book::Book;
 use gd_day::event_of;
-use gd_live::{Desk, Room};
-use gd_text_lines::is_closed;
+use gd_live::{Desk, Room, is_closed};
 use gd_text_part::{Cause, Form, MAX_BYTES, MAX_ROWS, Row, TextFault, rows_in};
 use std::alloc::Global;
 

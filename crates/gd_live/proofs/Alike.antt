@@ -16,12 +16,13 @@ use Rattle.gd_text_part.specs.declared.kind.Form.TheVariants as form
 use Rattle.gd_text_part.specs.declared.kind.RowKind.{RowKind}
 use Rattle.gd_text_part.specs.declared.kind.RowKind.TheVariants as kind
 use Rattle.gd_text_part.specs.declared.row.Row.{Row}
-use Rattle.gd_text_lines.specs.Calls.{IsAmongCalls, is_of_call}
-use Rattle.gd_text_lines.specs.Fronts.{Place, front_from, front_of, ended_front}
-use Rattle.gd_text_lines.specs.Lines.{IsClosed, text_of_lines}
-use Rattle.gd_text_lines.proofs.AmongCalls.{IsCallOrWaits, bound, inside, known, ok, opening_among, rows_among, stands_so, takes_it}
-use Rattle.gd_text_lines.proofs.Fronts.{rows_join}
-use Rattle.gd_text_lines.proofs.Renumbered.{anywhere}
+use Rattle.gd_live.specs.Calls.{IsAmongCalls, is_of_call}
+use Rattle.gd_live.specs.Fronts.{Place, front_from, ended_front}
+use Rattle.gd_live.specs.TextLines.{IsClosed, text_of_lines}
+use Rattle.gd_live.proofs.AmongCalls.{IsCallOrWaits, bound, inside, known, ok, opening_among, rows_among, stands_so, takes_it}
+use Rattle.gd_live.proofs.Following.{rows_of_lines}
+use Rattle.gd_live.proofs.Fronts.{rows_join}
+use Rattle.gd_live.proofs.Renumbered.{anywhere}
 use Rattle.gd_day.specs.Calls.{calls_of}
 use Rattle.gd_live.proofs.OpeningRows.{LeavesOff, no_events, opened_at, opening_rows, start_quiet}
 
@@ -94,19 +95,13 @@ nothing_opens : (rows : List Row) → rows_of form.Day [] ≡ Ok rows → ⊥
 unfolding rows_from csv_on_literals
 nothing_opens rows h = cc
 
--- what is said of lines behind a text
-abbrev pub LinesFollow : Type 0
-LinesFollow =
-    (text : List ℕ) (lines : List (List ℕ)) → text ≢ [] → IsClosed (strip_bom text) → AllByRecursion IsPlain lines
-    → rows_of form.Day (text ++ text_of_lines lines) ≡ ended_front form.Day (front_of form.Day text) (length (records_of text)) (map (cut_at_commas []) lines)
-
-pub read_behind : LinesFollow → (opening : List ℕ) (lines : List (List ℕ)) (rows read : List Row) → IsClosed (strip_bom opening) → rows_of form.Day opening ≡ Ok rows → calls_of rows ≡ []
+pub read_behind : (opening : List ℕ) (lines : List (List ℕ)) (rows read : List Row) → IsClosed (strip_bom opening) → rows_of form.Day opening ≡ Ok rows → calls_of rows ≡ []
     → AllByRecursion IsPlain lines → front_from form.Day behind_opening 0 (map (cut_at_commas []) lines) ≡ Ok (read, behind_opening) → rows_of form.Day (opening ++ text_of_lines lines) ≡ Ok (rows ++ read)
-read_behind follow opening lines rows read closed reads none plain calls =
+read_behind opening lines rows read closed reads none plain calls =
     let more = map (cut_at_commas []) lines in
     let n = length (records_of opening) in
     let it = opening_read opening rows reads none in
     let some : opening ≢ [] = λ e. nothing_opens rows (subst (λ text. rows_of form.Day text ≡ Ok rows) e reads) in
     let there = records_alike it.stage it.early more n read (anywhere 0 n more read calls) in
-    follow opening lines some closed plain ∙ ap (λ front. ended_front form.Day front n more) it.front
+    rows_of_lines form.Day opening lines some closed plain ∙ ap (λ front. ended_front form.Day front n more) it.front
     ∙ ap (λ (r : Result (List Row) RowFault). r >>= λ rest. Ok (rows ++ rest)) there

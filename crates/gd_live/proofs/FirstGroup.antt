@@ -16,8 +16,8 @@ use Rattle.gd_text_part.specs.declared.row.Member.{Member}
 use Rattle.gd_text_part.specs.declared.row.Member.TheVariants as member
 use Rattle.gd_text_part.specs.declared.row.Row.{Row}
 use Rattle.gd_text_part.specs.declared.row.Row.TheVariants as row
-use Rattle.gd_text_lines.specs.Calls.{is_of_call}
-use Rattle.gd_text_lines.proofs.AmongCalls.{bound}
+use Rattle.gd_live.specs.Calls.{is_of_call}
+use Rattle.gd_live.proofs.AmongCalls.{bound}
 use Rattle.gd_text.specs.Building.{built_from}
 use Rattle.gd_text.specs.Members.{member_step, members_from, members_of, none_inside, with_member, with_place, with_point, with_pool}
 use Rattle.gd_text.specs.Prices.{Table, no_prices, place, price_at, price_step, prices_from, prices_of}

@@ -1,3 +1,17 @@
+mod Joined
+mod Plain
+mod Fresh
+mod HeadMarks
+mod Fronts
+mod Following
+pub mod AmongCalls
+mod Renumbered
+mod RowLines
+mod States
+mod Marks
+mod Growing
+mod TextLinesExamples
+mod OpeningExamples
 mod Accepting
 mod Joining
 mod Made

@@ -11,12 +11,12 @@ use Rattle.gd_text_part.specs.declared.order.Place.{Place}
 use Rattle.gd_text_part.specs.declared.row.EventRow.{EventRow}
 use Rattle.gd_text_part.specs.declared.row.Row.{Row}
 use Rattle.gd_text_part.specs.declared.row.Row.TheVariants as row
-use Rattle.gd_text_lines.specs.Lines.{text_of_lines}
-use Rattle.gd_text_lines.specs.Fronts.{front_from, longer_front}
-use Rattle.gd_text_lines.proofs.Fronts.{fronts_join}
-use Rattle.gd_text_lines.proofs.AmongCalls.{calls_behind}
-use Rattle.gd_text_lines.proofs.Renumbered.{anywhere}
-use Rattle.gd_text_lines.proofs.RowLines.{rows_plain, plain_rows}
+use Rattle.gd_live.specs.TextLines.{text_of_lines}
+use Rattle.gd_live.specs.Fronts.{front_from, longer_front}
+use Rattle.gd_live.proofs.Fronts.{fronts_join}
+use Rattle.gd_live.proofs.AmongCalls.{calls_behind}
+use Rattle.gd_live.proofs.Renumbered.{anywhere}
+use Rattle.gd_live.proofs.RowLines.{rows_plain, plain_rows}
 use Rattle.gd_day.specs.Calls.{Call, event_of, calls_after, calls_of}
 use Rattle.gd_day.specs.Groups.{AllPass, Passes}
 use Rattle.gd_machine.specs.Day.{Day}

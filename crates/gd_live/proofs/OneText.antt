@@ -8,10 +8,10 @@ use Rattle.gd_text_part.specs.Lines.{IsPlain, behind_opening, cut_at_commas}
 use Rattle.gd_text_part.specs.Texts.{rows_of}
 use Rattle.gd_text_part.specs.declared.kind.Form.TheVariants as form
 use Rattle.gd_text_part.specs.declared.row.Row.{Row}
-use Rattle.gd_text_lines.specs.Calls.{is_of_call}
-use Rattle.gd_text_lines.specs.Fronts.{front_from}
-use Rattle.gd_text_lines.specs.Lines.{IsClosed, text_of_lines}
-use Rattle.gd_text_lines.proofs.AmongCalls.{opening_among}
+use Rattle.gd_live.specs.Calls.{is_of_call}
+use Rattle.gd_live.specs.Fronts.{front_from}
+use Rattle.gd_live.specs.TextLines.{IsClosed, text_of_lines}
+use Rattle.gd_live.proofs.AmongCalls.{opening_among}
 use Rattle.gd_day.specs.Calls.{calls_of}
 use Rattle.gd_day.specs.Groups.{AllPass}
 use Rattle.gd_day.specs.Opening.{Opened}

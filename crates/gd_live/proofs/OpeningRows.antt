@@ -22,9 +22,9 @@ use Rattle.gd_text_part.specs.declared.row.Row.{Row}
 use Rattle.gd_text_part.specs.declared.row.Row.TheVariants as row
 use Rattle.gd_text_part.specs.declared.waiting.Waiting.{Waiting}
 use Rattle.gd_text_part.specs.declared.waiting.Waiting.TheVariants as waiting
-use Rattle.gd_text_lines.specs.Calls.{is_of_call}
-use Rattle.gd_text_lines.specs.Fronts.{Place, front_from}
-use Rattle.gd_text_lines.proofs.AmongCalls.{bound, inside, ok}
+use Rattle.gd_live.specs.Calls.{is_of_call}
+use Rattle.gd_live.specs.Fronts.{Place, front_from}
+use Rattle.gd_live.proofs.AmongCalls.{bound, inside, ok}
 use Rattle.gd_day.specs.Calls.{calls_after, event_of}
 use Rattle.gd_live.proofs.Stood.{Stood, stood}
 

@@ -15,8 +15,8 @@ use Rattle.gd_text_part.specs.declared.fault.TextFault.{TextFault}
 use Rattle.gd_text_part.specs.declared.fault.TextFault.TheVariants as fault
 use Rattle.gd_text_part.specs.declared.row.Row.{Row}
 use Rattle.gd_text_part.specs.declared.row.Row.TheVariants as row
-use Rattle.gd_text_lines.specs.Calls.{is_of_call}
-use Rattle.gd_text_lines.proofs.AmongCalls.{bound, inside}
+use Rattle.gd_live.specs.Calls.{is_of_call}
+use Rattle.gd_live.proofs.AmongCalls.{bound, inside}
 use Rattle.gd_text.specs.Building.{built_from}
 use Rattle.gd_text.specs.Members.{members_from}
 use Rattle.gd_text.specs.Prices.{prices_from}

@@ -14,8 +14,8 @@ use Rattle.gd_serving.specs.Yields.{Yield, Adds, LinesGive, rows_of, replies_of}
 use Rattle.gd_live.specs.Kept.{AreCalls}
 use Rattle.gd_live.specs.Stands.{Group, no_group, with_line, Stand, IsGroup}
 use Rattle.gd_live.specs.Lines.{RowDoes, BareGives, LineGives, IsMade, Gives, counted}
-use Rattle.gd_text_lines.proofs.AmongCalls.{opening_among, rows_among}
-use Rattle.gd_text_lines.proofs.RowLines.{rows_plain}
+use Rattle.gd_live.proofs.AmongCalls.{opening_among, rows_among}
+use Rattle.gd_live.proofs.RowLines.{rows_plain}
 use Rattle.gd_live.proofs.Joining.{all_join, none_kept, calls_join_on}
 use Rattle.gd_live.proofs.Made.{is_read, with_line_is, reads_more, made_kept}
 

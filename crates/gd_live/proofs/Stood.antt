@@ -12,8 +12,8 @@ use Rattle.gd_text_part.specs.declared.fault.RowFault.{RowFault}
 use Rattle.gd_text_part.specs.declared.kind.Form.TheVariants as form
 use Rattle.gd_text_part.specs.declared.kind.RowKind.{RowKind}
 use Rattle.gd_text_part.specs.declared.row.Row.{Row}
-use Rattle.gd_text_lines.specs.Fronts.{Place}
-use Rattle.gd_text_lines.proofs.AmongCalls.{bound, inside}
+use Rattle.gd_live.specs.Fronts.{Place}
+use Rattle.gd_live.proofs.AmongCalls.{bound, inside}
 
 -- the kind of a row, which is taken and stands no earlier than it may, and where rows stand behind it
 pub record Stood (place : Place) (n : ℕ) (fields : List (List ℕ)) (r : Row) (next : Place) : Type 0 where

@@ -1,3 +1,8 @@
+pub mod TextLines
+pub mod Fronts
+pub mod Calls
+pub mod CsvStands
+pub mod Openings
 pub mod Kept
 pub mod Stands
 pub mod Lines

@@ -4,7 +4,7 @@ use Rattle.csv.specs.Reading.{strip_bom}
 use Rattle.gd_text_part.specs.Texts.{rows_of}
 use Rattle.gd_text_part.specs.declared.kind.Form.TheVariants as form
 use Rattle.gd_text_part.specs.declared.row.Row.{Row}
-use Rattle.gd_text_lines.specs.Lines.{IsClosed}
+use Rattle.gd_live.specs.TextLines.{IsClosed}
 use Rattle.gd_day.specs.Calls.{calls_of}
 use Rattle.gd_day.specs.Groups.{AllPass}
 use Rattle.gd_day.specs.Opening.{Opened, opened_of}

@@ -13,9 +13,9 @@ ghost use Rattle.gd_text_part.specs.Lines.{IsPlain, behind_opening, cut_at_comma
 ghost use Rattle.gd_text_part.specs.Texts.{rows_of};
 ghost use Rattle.gd_text_part.specs.declared.kind.Form.TheVariants as form;
 ghost use Rattle.gd_text_part.specs.declared.row.Row.{Row};
-ghost use Rattle.gd_text_lines.specs.Calls.{is_of_call};
-ghost use Rattle.gd_text_lines.specs.Fronts.{front_from};
-ghost use Rattle.gd_text_lines.specs.Lines.{IsClosed, text_of_lines};
+ghost use Rattle.gd_live.specs.Calls.{is_of_call};
+ghost use Rattle.gd_live.specs.Fronts.{front_from};
+ghost use Rattle.gd_live.specs.TextLines.{IsClosed, text_of_lines};
 ghost use Rattle.gd_day.specs.Calls.{calls_of};
 ghost use Rattle.gd_day.specs.Groups.{AllPass};
 ghost use Rattle.gd_day.specs.Opening.{Opened, opened_of};
@@ -25,8 +25,6 @@ ghost use Rattle.gd_replies.specs.declared.reply.Reply.{Reply};
 ghost use Rattle.gd_course.specs.Course.{Runs};
 ghost use Rattle.gd_live.specs.Kept.{AreCalls};
 ghost use Rattle.gd_live.specs.OneText.{OpensAs, RunsAs};
-
-use gd_text_lines::lines_are_read_one_by_one;
 
 /// A text that makes no call has no row that waits for one either: the end of the text would leave it over, which is a fault.
 pub fn openings_have_no_row_of_a_call()
@@ -45,9 +43,7 @@ pub fn calls_are_read_behind_an_opening()
         → front_from form.Day behind_opening 0 (map (cut_at_commas []) lines)
         ≡ Ok (read, behind_opening)
         → rows_of form.Day (opening ++ text_of_lines lines) ≡ Ok (rows ++ read) }
-{
-    lines_are_read_one_by_one();
-}
+{}
 
 /// What rows open a book with passes over rows of calls behind them, where the prices and the set of each call can be made.
 pub fn openings_pass_over_calls()

@@ -4,3 +4,4 @@ mod InEffect
 mod Numbers
 mod Rows
 mod Search
+mod Written

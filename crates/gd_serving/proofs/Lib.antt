@@ -4,4 +4,5 @@ mod Blocks
 mod Runs
 mod Fits
 mod Again
+mod Nothing
 mod Examples

@@ -1,8 +1,0 @@
-use Rattle.gd_text_lines.proofs.Following.{front_of_lines, rows_of_lines}
-use Rattle.gd_text_lines.proofs.laws.lines_are_read_one_by_one.Goals as goal
-
-pub returns-clause-front : goal.returns-clause-front
-returns-clause-front c = front_of_lines
-
-pub returns-clause-ended : goal.returns-clause-ended
-returns-clause-ended c = rows_of_lines

@@ -1,8 +1,0 @@
-use Rattle.gd_text_lines.proofs.Following.{closed_goes_on, lines_follow}
-use Rattle.gd_text_lines.proofs.laws.lines_follow_a_text.Goals as goal
-
-pub returns-clause-closed : goal.returns-clause-closed
-returns-clause-closed c = closed_goes_on
-
-pub returns-clause-records : goal.returns-clause-records
-returns-clause-records c = lines_follow
