@@ -19,7 +19,6 @@ write, and prints what differs; the last line is 'N passed, M failed', where N c
 status is 0 only where all is.
 """
 
-import difflib
 import sys
 from pathlib import Path
 
@@ -29,6 +28,7 @@ from command_line import TOP, Fault
 from gasday_completions import in_bash, in_fish, in_zsh
 from help_tables import commands_table, made_of, refusals_module, refusals_table
 from machine_tables import BOOK, book_with_lists
+from made_files import run
 from row_tables import rows_table, stages_module
 
 SCRIPT = Path(__file__).name
@@ -63,38 +63,5 @@ def made() -> dict[Path, str]:
     }
 
 
-def difference(path: Path, text: str) -> str:
-    """What differs between a file and how it would be made, or nothing."""
-    here = path.read_text(encoding="utf-8") if path.exists() else ""
-    name = str(path.relative_to(TOP))
-    lines = difflib.unified_diff(here.splitlines(), text.splitlines(), name, "as it would be made", n=1, lineterm="")
-    return "" if here == text else "\n".join([f"FAIL {name}", *lines])
-
-
-def check(files: dict[Path, str]) -> bool:
-    """Whether all is as it would be made; prints what differs."""
-    results = [difference(path, text) for path, text in files.items()]
-    failed = [it for it in results if it]
-    print("".join(f"{it}\n" for it in failed), end="")
-    print(f"{len(results) - len(failed)} passed, {len(failed)} failed")
-    return not failed
-
-
-def main() -> int:
-    if sys.argv[1:] not in (["make"], ["check"]):
-        print((__doc__ or "").strip())
-        return 2
-    try:
-        files = made()
-    except Fault as fault:
-        print(f"FAIL {fault}\n0 passed, 1 failed")
-        return 1
-    if sys.argv[1] == "check":
-        return 0 if check(files) else 1
-    for path, text in files.items():
-        path.write_text(text, encoding="utf-8")
-    return 0
-
-
 if __name__ == "__main__":
-    sys.exit(main())
+    sys.exit(run(__doc__, made))

@@ -36,6 +36,7 @@ from typing import Literal
 sys.dont_write_bytecode = True
 
 from command_line import TOP, Command, Fault, commands, forms, unescaped
+from made_files import Files, run
 
 HELP = TOP / "crates" / "gasday_words" / "src" / "help.rt"
 SOURCE = TOP / "man" / "gasday.1.in"
@@ -367,29 +368,15 @@ def differences(made: str, page: str) -> list[str]:
     return results
 
 
-def check(made: str) -> bool:
-    """Whether the page is as it would be made; prints what differs."""
-    results = differences(made, PAGE.read_text() if PAGE.exists() else "")
-    failed = [it for it in results if it]
-    print("".join(f"{it}\n" for it in failed), end="")
-    print(f"{len(results) - len(failed)} passed, {len(failed)} failed")
-    return not failed
+def page_differences(files: Files) -> list[str]:
+    """How the page differs from how it would be made."""
+    return differences(files[PAGE], PAGE.read_text(encoding="utf-8") if PAGE.exists() else "")
 
 
-def main() -> int:
-    if sys.argv[1:] not in (["make"], ["check"]):
-        print((__doc__ or "").strip())
-        return 2
-    try:
-        made = made_of(SOURCE.read_text(), HELP.read_text())
-    except Fault as fault:
-        print("".join(f"FAIL {line}\n" for line in str(fault).splitlines()) + "0 passed, 1 failed")
-        return 1
-    if sys.argv[1] == "check":
-        return 0 if check(made) else 1
-    PAGE.write_text(made)
-    return 0
+def made() -> Files:
+    """The page as it is made."""
+    return {PAGE: made_of(SOURCE.read_text(encoding="utf-8"), HELP.read_text(encoding="utf-8"))}
 
 
 if __name__ == "__main__":
-    sys.exit(main())
+    sys.exit(run(__doc__, made, page_differences))

@@ -12,7 +12,6 @@ A help is read as argparse writes it, and else as a line of usage with paragraph
 `gasday` itself are none of these: tests/manual.py makes that page.
 """
 
-import difflib
 import os
 import re
 import subprocess
@@ -21,9 +20,12 @@ from collections.abc import Collection, Iterator
 from dataclasses import dataclass, field
 from pathlib import Path
 
+sys.dont_write_bytecode = True
+
+import made_files
+from command_line import TOP, Fault
 from manual import bold, literal, prose, quoted
 
-TOP = Path(__file__).resolve().parent.parent
 MAN, COMPLETIONS, COMPANION = TOP / "man", TOP / "completions", TOP / "companion"
 
 ABOUT = re.compile(r'^"""(.+?); (docs/\w+\.md) says more\."""$', re.M)
@@ -43,10 +45,6 @@ FREE = ("N", "SECONDS", "ADDRESS", "HOST", "PORT", "ZONE", "SCENARIO", "NAME", "
 FOLDERS = ("FOLDER", "DIRECTORY")
 MADE = "Made by tests/tool_pages.py of what {} --help tells: change that, and not this file."
 NOT_PROVED = "This tool is tested, and not proved: what is proved is \\fBgasday\\fR(1)."
-
-
-class Fault(Exception):
-    """The pages of a tool can't be made of what it tells."""
 
 
 @dataclass(frozen=True)
@@ -503,41 +501,12 @@ def made() -> dict[Path, str]:
     return files
 
 
-def difference(path: Path, text: str) -> str:
-    """What differs between a file and how it would be made, or nothing."""
-    here = path.read_text() if path.exists() else ""
-    lines = difflib.unified_diff(here.splitlines(), text.splitlines(), str(path.relative_to(TOP)), "as it would be made",
-                                 n=1, lineterm="")
-    return "" if here == text else "\n".join([f"FAIL {path.relative_to(TOP)}", *lines])
-
-
-def check(files: dict[Path, str]) -> bool:
-    """Whether all is as it would be made; prints what differs."""
-    results = [difference(path, text) for path, text in files.items()]
+def differences(files: dict[Path, str]) -> list[str]:
+    """For each file what differs, or nothing, and each that is of no tool."""
     there = [*MAN.glob("gasday-*"), *COMPLETIONS.glob("gasday-*"), *COMPLETIONS.glob("_gasday-*")]
-    results += [f"FAIL {path.relative_to(TOP)} is of no tool that is there" for path in there if path not in files]
-    failed = [it for it in results if it]
-    print("".join(f"{it}\n" for it in failed), end="")
-    print(f"{len(results) - len(failed)} passed, {len(failed)} failed")
-    return not failed
-
-
-def main() -> int:
-    if sys.argv[1:] not in (["make"], ["check"]):
-        print((__doc__ or "").strip())
-        return 2
-    try:
-        files = made()
-    except Fault as fault:
-        print(f"FAIL {fault}\n0 passed, 1 failed")
-        return 1
-    if sys.argv[1] == "check":
-        return 0 if check(files) else 1
-    for path, text in files.items():
-        path.write_text(text)
-    return 0
+    others = [f"FAIL {path.relative_to(TOP)} is of no tool that is there" for path in there if path not in files]
+    return made_files.differences(files) + others
 
 
 if __name__ == "__main__":
-    sys.dont_write_bytecode = True
-    sys.exit(main())
+    sys.exit(made_files.run(__doc__, made, differences))

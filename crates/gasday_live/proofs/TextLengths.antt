@@ -16,7 +16,8 @@ use Rattle.gd_text_part.specs.declared.order.Place.{Place}
 use Rattle.gd_text_part.specs.declared.records.TheConstants.{MAX_ROWS}
 use Rattle.gd_text_part.specs.declared.row.EventRow.{EventRow}
 use Rattle.gd_text_part.specs.declared.row.Row.{Row}
-use Rattle.gd_live.specs.TextLines.{IsClosed, text_of_lines}
+use Rattle.gd_live.specs.TextLines.{IsClosed}
+use Rattle.gd_serving.specs.Lines.{text_of_lines}
 use Rattle.gd_live.proofs.AmongCalls.{bound, inside}
 use Rattle.gd_journal_store.specs.Pieces.{Piece}
 use Rattle.gd_serving.specs.Runs.{AreOf, rows_text}

@@ -15,10 +15,12 @@ use Rattle.gd_text_part.specs.declared.fault.RowFault.{RowFault}
 use Rattle.gd_text_part.specs.declared.kind.Form.TheVariants as form
 use Rattle.gd_text_part.specs.declared.kind.RowKind.{RowKind}
 use Rattle.gd_text_part.specs.declared.kind.RowKind.TheVariants as kind
+use Rattle.gd_text_part.specs.declared.order.Place.{Place}
 use Rattle.gd_text_part.specs.declared.row.Row.{Row}
 use Rattle.gd_live.specs.Calls.{IsAmongCalls, is_of_call}
-use Rattle.gd_live.specs.Fronts.{Place, front_from, ended_front}
-use Rattle.gd_live.specs.TextLines.{IsClosed, text_of_lines}
+use Rattle.gd_live.specs.Fronts.{front_from, ended_front}
+use Rattle.gd_live.specs.TextLines.{IsClosed}
+use Rattle.gd_serving.specs.Lines.{text_of_lines}
 use Rattle.gd_live.proofs.AmongCalls.{IsCallOrWaits, bound, inside, known, ok, opening_among, rows_among, stands_so, takes_it}
 use Rattle.gd_live.proofs.Following.{rows_of_lines}
 use Rattle.gd_live.proofs.Fronts.{rows_join}

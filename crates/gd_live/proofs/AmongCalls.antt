@@ -15,13 +15,13 @@ use Rattle.gd_text_part.specs.declared.fault.RowFault.{RowFault}
 use Rattle.gd_text_part.specs.declared.kind.Form.TheVariants as form
 use Rattle.gd_text_part.specs.declared.kind.RowKind.{RowKind}
 use Rattle.gd_text_part.specs.declared.kind.RowKind.TheVariants as kind
+use Rattle.gd_text_part.specs.declared.order.Place.{Place}
 use Rattle.gd_text_part.specs.declared.row.EventRow.{EventRow}
 use Rattle.gd_text_part.specs.declared.row.Row.{Row}
 use Rattle.gd_text_part.specs.declared.row.Row.TheVariants as row
 use Rattle.gd_text_part.specs.declared.waiting.Waiting.{Waiting}
 use Rattle.gd_text_part.specs.declared.waiting.Waiting.TheVariants as waiting
 use Rattle.gd_live.specs.Calls.{IsAmongCalls, is_call, is_of_call}
-use Rattle.gd_live.specs.Fronts.{Place}
 
 -- what a step that was taken gave
 pub bound : {A B E : Type 0} (r : Result A E) (f : A → Result B E) (y : B) → (r >>= f) ≡ Ok y → (x : A) × (r ≡ Ok x) × (f x ≡ Ok y)

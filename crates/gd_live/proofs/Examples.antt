@@ -16,7 +16,7 @@ use Rattle.gd_text_part.specs.declared.row.EventRow.TheVariants.{Publish}
 use Rattle.gd_text_part.specs.declared.row.PipelineRow.TheVariants.{Segment}
 use Rattle.gd_text_part.specs.declared.row.Row.{Row}
 use Rattle.gd_text_part.specs.declared.row.Row.TheVariants as row
-use Rattle.gd_live.specs.TextLines.{text_of_lines}
+use Rattle.gd_serving.specs.Lines.{text_of_lines}
 use Rattle.gd_live.proofs.RowLines.{rows_plain}
 use Rattle.gd_text.specs.Building.{built_from}
 use Rattle.gd_day.specs.Opening.{Opened}

@@ -9,7 +9,8 @@ use Rattle.gd_text_part.specs.Texts.{rows_from, rows_of}
 use Rattle.gd_text_part.specs.declared.kind.Form.{Form}
 use Rattle.gd_live.specs.Fronts.{front_from, front_of, longer_front, ended_front}
 use Rattle.gd_text_part.specs.Lines.{IsPlain, cut_at_commas}
-use Rattle.gd_live.specs.TextLines.{Left, left_by, IsClosed, text_of_lines}
+use Rattle.gd_live.specs.TextLines.{Left, left_by, IsClosed}
+use Rattle.gd_serving.specs.Lines.{text_of_lines}
 use Rattle.gd_live.proofs.Fronts.{rows_join, fronts_join}
 use Rattle.gd_live.proofs.Joined.{joins, left_append}
 use Rattle.gd_live.proofs.HeadMarks.{strip_joins}

@@ -5,8 +5,9 @@ use Rattle.gd_text_part.specs.Rows.{◌>>=◌}
 use Rattle.gd_text_part.specs.Texts.{rows_from}
 use Rattle.gd_text_part.specs.declared.fault.RowFault.{RowFault}
 use Rattle.gd_text_part.specs.declared.kind.Form.{Form}
+use Rattle.gd_text_part.specs.declared.order.Place.{Place}
 use Rattle.gd_text_part.specs.declared.row.Row.{Row}
-use Rattle.gd_live.specs.Fronts.{Place, front_from, longer_front, ended_front}
+use Rattle.gd_live.specs.Fronts.{front_from, longer_front, ended_front}
 
 abbrev Front : Type 0
 Front = Result (List Row × Place) RowFault

@@ -7,8 +7,8 @@ use Rattle.gd_text_part.specs.Texts.{BlamesLength, BlamesNoRow}
 use Rattle.gd_text_part.specs.declared.fault.TextFault.{TextFault}
 use Rattle.gd_text_part.specs.declared.fault.TextFault.TheVariants as fault
 use Rattle.gd_text_part.specs.declared.input.TheConstants.{MAX_BYTES}
-use Rattle.gd_live.specs.TextLines.{text_of_lines}
-use Rattle.gd_live.specs.Openings.{HasNoEnd, IsOfOpening, IsOpening, GoesOn, HasLongOpening}
+use Rattle.gd_serving.specs.Lines.{HasNoEnd, text_of_lines}
+use Rattle.gd_live.specs.Openings.{IsOfOpening, IsOpening, GoesOn, HasLongOpening}
 
 all_more : {X : Type 0} (P : X → Type 0) (xs ys : List X) → AllByRecursion P xs → AllByRecursion P ys → AllByRecursion P (xs ++ ys)
 all_more P [] ys p q = q

@@ -11,7 +11,7 @@ use Rattle.gd_text_part.specs.declared.order.Place.{Place}
 use Rattle.gd_text_part.specs.declared.row.EventRow.{EventRow}
 use Rattle.gd_text_part.specs.declared.row.Row.{Row}
 use Rattle.gd_text_part.specs.declared.row.Row.TheVariants as row
-use Rattle.gd_live.specs.TextLines.{text_of_lines}
+use Rattle.gd_serving.specs.Lines.{text_of_lines}
 use Rattle.gd_live.specs.Fronts.{front_from, longer_front}
 use Rattle.gd_live.proofs.Fronts.{fronts_join}
 use Rattle.gd_live.proofs.AmongCalls.{calls_behind}

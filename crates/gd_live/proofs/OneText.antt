@@ -10,7 +10,8 @@ use Rattle.gd_text_part.specs.declared.kind.Form.TheVariants as form
 use Rattle.gd_text_part.specs.declared.row.Row.{Row}
 use Rattle.gd_live.specs.Calls.{is_of_call}
 use Rattle.gd_live.specs.Fronts.{front_from}
-use Rattle.gd_live.specs.TextLines.{IsClosed, text_of_lines}
+use Rattle.gd_live.specs.TextLines.{IsClosed}
+use Rattle.gd_serving.specs.Lines.{text_of_lines}
 use Rattle.gd_live.proofs.AmongCalls.{opening_among}
 use Rattle.gd_day.specs.Calls.{calls_of}
 use Rattle.gd_day.specs.Groups.{AllPass}

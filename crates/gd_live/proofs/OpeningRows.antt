@@ -18,12 +18,13 @@ use Rattle.gd_text_part.specs.declared.fault.RowFault.{RowFault}
 use Rattle.gd_text_part.specs.declared.kind.Form.TheVariants as form
 use Rattle.gd_text_part.specs.declared.kind.RowKind.{RowKind}
 use Rattle.gd_text_part.specs.declared.kind.RowKind.TheVariants as kind
+use Rattle.gd_text_part.specs.declared.order.Place.{Place}
 use Rattle.gd_text_part.specs.declared.row.Row.{Row}
 use Rattle.gd_text_part.specs.declared.row.Row.TheVariants as row
 use Rattle.gd_text_part.specs.declared.waiting.Waiting.{Waiting}
 use Rattle.gd_text_part.specs.declared.waiting.Waiting.TheVariants as waiting
 use Rattle.gd_live.specs.Calls.{is_of_call}
-use Rattle.gd_live.specs.Fronts.{Place, front_from}
+use Rattle.gd_live.specs.Fronts.{front_from}
 use Rattle.gd_live.proofs.AmongCalls.{bound, inside, ok}
 use Rattle.gd_day.specs.Calls.{calls_after, event_of}
 use Rattle.gd_live.proofs.Stood.{Stood, stood}

@@ -6,7 +6,8 @@ use Rattle.std.proofs.lemmas.Bool.{cases_Bool}
 use Rattle.csv.specs.Reading.{default_config, records}
 use Rattle.csv.specs.declared.parser.State.TheVariants as st
 use Rattle.gd_text_part.specs.Lines.{IsPlain, cut_at_commas}
-use Rattle.gd_live.specs.TextLines.{Left, left_by, IsClosed, text_of_lines}
+use Rattle.gd_live.specs.TextLines.{Left, left_by, IsClosed}
+use Rattle.gd_serving.specs.Lines.{text_of_lines}
 use Rattle.gd_live.proofs.Joined.{ended_in, left_append, joins, all_of, at_end}
 
 pub inner : (a b : Bool) → (a || b) ≡ false → (a ≡ false) × (b ≡ false)

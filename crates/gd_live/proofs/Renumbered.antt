@@ -8,11 +8,12 @@ use Rattle.gd_text_part.specs.Places.{row_of, body, left_over, waiting_behind, c
 use Rattle.gd_text_part.specs.declared.fault.RowFault.{RowFault}
 use Rattle.gd_text_part.specs.declared.kind.Form.TheVariants as form
 use Rattle.gd_text_part.specs.declared.kind.RowKind.{RowKind}
+use Rattle.gd_text_part.specs.declared.order.Place.{Place}
 use Rattle.gd_text_part.specs.declared.row.Row.{Row}
 use Rattle.gd_text_part.specs.declared.waiting.Waiting.{Waiting}
 use Rattle.gd_text_part.specs.declared.waiting.Waiting.TheVariants as waiting
 use Rattle.gd_live.specs.Calls.{IsAmongCalls}
-use Rattle.gd_live.specs.Fronts.{Place, front_from}
+use Rattle.gd_live.specs.Fronts.{front_from}
 use Rattle.gd_live.proofs.AmongCalls.{IsCallOrWaits, behind_is, behind_kind, bound, inside, known, ok, opening_among, rows_among, stands_so, takes_it}
 
 -- the same rows wait, and the first of them has this number

@@ -5,8 +5,8 @@ use Rattle.std.specs.List.{AllByRecursion}
 use Rattle.gd_text_part.specs.Lines.{IsPlain, cut_at_commas, is_mark, is_marked, line_of, row_in}
 use Rattle.gd_text_part.specs.Places.{row_of}
 use Rattle.gd_text_part.specs.declared.kind.Form.TheVariants as form
+use Rattle.gd_text_part.specs.declared.order.Place.{Place}
 use Rattle.gd_text_part.specs.declared.row.Row.{Row}
-use Rattle.gd_live.specs.Fronts.{Place}
 use Rattle.gd_live.proofs.Plain.{inner}
 
 abbrev IsUnmarked : List ℕ → Type 0

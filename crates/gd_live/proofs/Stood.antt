@@ -11,8 +11,8 @@ use Rattle.gd_text_part.specs.declared.fault.Cause.{Cause}
 use Rattle.gd_text_part.specs.declared.fault.RowFault.{RowFault}
 use Rattle.gd_text_part.specs.declared.kind.Form.TheVariants as form
 use Rattle.gd_text_part.specs.declared.kind.RowKind.{RowKind}
+use Rattle.gd_text_part.specs.declared.order.Place.{Place}
 use Rattle.gd_text_part.specs.declared.row.Row.{Row}
-use Rattle.gd_live.specs.Fronts.{Place}
 use Rattle.gd_live.proofs.AmongCalls.{bound, inside}
 
 -- the kind of a row, which is taken and stands no earlier than it may, and where rows stand behind it

@@ -3,9 +3,9 @@ use Rattle.std.specs.Prelude.{◌≡◌, ◌≤◌, Bool, true, false}
 use Rattle.gd_text_part.specs.Kinds.{stage_of}
 use Rattle.gd_text_part.specs.Offices.{no_blocks, is_idle}
 use Rattle.gd_text_part.specs.declared.kind.RowKind.TheVariants as kind
+use Rattle.gd_text_part.specs.declared.order.Place.{Place}
 use Rattle.gd_text_part.specs.declared.row.Row.{Row}
 use Rattle.gd_text_part.specs.declared.row.Row.TheVariants as row
-use Rattle.gd_live.specs.Fronts.{Place}
 
 -- where calls of a gas day may stand and the rows that wait for them, and no row of its opening
 pub record IsAmongCalls (place : Place) : Type 0 where

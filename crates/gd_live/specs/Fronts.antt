@@ -6,14 +6,8 @@ use Rattle.gd_text_part.specs.Rows.{◌>>=◌}
 use Rattle.gd_text_part.specs.Texts.{rows_from}
 use Rattle.gd_text_part.specs.declared.fault.RowFault.{RowFault}
 use Rattle.gd_text_part.specs.declared.kind.Form.{Form}
+use Rattle.gd_text_part.specs.declared.order.Place.{Place}
 use Rattle.gd_text_part.specs.declared.row.Row.{Row}
-
--- the type of where rows stand in the order, which has no name outside its crate
-abbrev type_of : {A : Type 0} → A → Type 0
-type_of {A} value = A
-
-abbrev pub Place : Type 0
-Place = type_of start
 
 -- the rows that records are behind n others, and where rows stand behind them, or the first fault; whether the text may end
 -- there isn't asked

@@ -6,7 +6,7 @@ use Rattle.gd_text_part.specs.declared.kind.Form.TheVariants as form
 use Rattle.gd_text_part.specs.declared.row.EventRow.{EventRow}
 use Rattle.gd_text_part.specs.declared.row.Row.{Row}
 use Rattle.gd_text_part.specs.declared.row.Row.TheVariants as row
-use Rattle.gd_live.specs.TextLines.{text_of_lines}
+use Rattle.gd_serving.specs.Lines.{text_of_lines}
 use Rattle.gd_live.specs.Fronts.{front_from}
 use Rattle.gd_day.specs.Calls.{calls_of}
 use Rattle.gd_day.specs.Groups.{AllPass}

@@ -1,13 +1,9 @@
 -- What is read of a text that opens a gas day and goes on by the lines of its calls.
-use Rattle.std.specs.Prelude.{◌≡◌, ◌≤◌, ◌<◌, ◌==◌, ◌+◌, ℕ, Bool, true, false, List, ◌∷◌, ◌++◌, length, MatchBool}
+use Rattle.std.specs.Prelude.{◌≡◌, ◌≤◌, ◌<◌, ◌+◌, ℕ, Bool, true, false, List, ◌∷◌, ◌++◌, length, MatchBool}
 use Rattle.std.specs.List.{AllByRecursion}
 use Rattle.gd_text_part.specs.Lines.{is_of_calls}
 use Rattle.gd_text_part.specs.declared.input.TheConstants.{MAX_BYTES}
-use Rattle.gd_live.specs.TextLines.{text_of_lines}
-
--- no byte is a line feed
-abbrev pub HasNoEnd : List ℕ → Type 0
-HasNoEnd bytes = AllByRecursion (λ b. (b == 10) ≡ false) bytes
+use Rattle.gd_serving.specs.Lines.{HasNoEnd, text_of_lines}
 
 -- the text is whole lines, and none of them is of calls
 pub record IsOfOpening (text : List ℕ) : Type 0 where

@@ -5,7 +5,7 @@ use Rattle.gd_text_part.specs.Lines.{behind_opening, cut_at_commas, IsPlain}
 use Rattle.gd_text_part.specs.declared.kind.Form.TheVariants as form
 use Rattle.gd_text_part.specs.declared.order.Place.{Place}
 use Rattle.gd_text_part.specs.declared.row.Row.{Row}
-use Rattle.gd_live.specs.TextLines.{text_of_lines}
+use Rattle.gd_serving.specs.Lines.{text_of_lines}
 use Rattle.gd_live.specs.Calls.{IsAmongCalls}
 use Rattle.gd_live.specs.Fronts.{front_from}
 use Rattle.gd_day.specs.Calls.{event_of}

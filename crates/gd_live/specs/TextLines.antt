@@ -1,5 +1,5 @@
--- Where a text may be cut, and the text of lines.
-use Rattle.std.specs.Prelude.{◌≡◌, ℕ, List, [], ◌∷◌, ◌++◌, flat_map, if◌then◌else◌}
+-- Where a text may be cut.
+use Rattle.std.specs.Prelude.{◌≡◌, ℕ, List, [], ◌∷◌, if◌then◌else◌}
 use Rattle.csv.specs.Machine.{step, is_end, fields_after, field_after}
 use Rattle.csv.specs.Reading.{default_config}
 use Rattle.csv.specs.declared.parser.State.{State}
@@ -19,7 +19,3 @@ left_by s fields field (c ∷ bytes) =
 -- behind the bytes a record begins
 abbrev pub IsClosed : List ℕ → Type 0
 IsClosed bytes = left_by st.StartRecord [] [] bytes ≡ (st.StartRecord, [], [])
-
--- lines, each with its line feed
-abbrev pub text_of_lines : List (List ℕ) → List ℕ
-text_of_lines lines = flat_map (λ line. line ++ 10 ∷ []) lines

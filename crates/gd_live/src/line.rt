@@ -1,20 +1,12 @@
 //! The lines of a block of bytes, as they join an opening.
 
-ghost use Rattle.std.specs.Prelude.{◌≡◌, ◌++◌, ◌∷◌, [], false, IfOk, IfErr, OnOk, MatchBool, MatchOption};
+ghost use Rattle.std.specs.Prelude.{◌≡◌, ◌++◌, ◌∷◌, [], false, IfOk, IfErr, OnOk, MatchBool};
 ghost use Rattle.gd_text_part.specs.Texts.{BlamesLength};
-ghost use Rattle.gd_live.specs.Openings.{HasNoEnd, GoesOn, HasLongOpening, IsOpening};
+ghost use Rattle.gd_serving.specs.Lines.{HasNoEnd};
+ghost use Rattle.gd_live.specs.Openings.{GoesOn, HasLongOpening, IsOpening};
 
+use gd_serving::first_line;
 use gd_text_part::{MAX_BYTES, TextFault, is_of_calls};
-use memchr::memchr;
-
-/// The first whole line, and what comes behind its line feed; `None` where no line ends.
-fn first_line(bytes: &[u8]) -> Option<(&[u8], &[u8])>
-    ensures { MatchOption result (HasNoEnd bytes.now)
-        (λ p. HasNoEnd p.0.now × (bytes.now ≡ p.0.now ++ 10 ∷ p.1.now)) }
-{
-    let at = memchr(b'\n', bytes)?;
-    Some((&bytes[..at], &bytes[at + 1..]))
-}
 
 /// Takes the end of the line that has begun, and its line feed with the bytes behind it. Where the line is of calls, all stays
 /// behind the opening, which ends there; else the line joins it, and the bytes behind it are left to take.

@@ -22,8 +22,10 @@ ghost use Rattle.gd_text_part.specs.declared.row.Row.TheVariants as row;
 ghost use Rattle.gd_live.specs.Calls.{IsAmongCalls, is_of_call};
 ghost use Rattle.gd_text_part.specs.Lines.{IsPlain, behind_opening, cut_at_commas, line_of};
 ghost use Rattle.gd_text_part.specs.Places.{row_of};
-ghost use Rattle.gd_live.specs.TextLines.{IsClosed, left_by, text_of_lines};
-ghost use Rattle.gd_live.specs.Fronts.{Place, front_from, front_of, longer_front, ended_front};
+ghost use Rattle.gd_text_part.specs.declared.order.Place.{Place};
+ghost use Rattle.gd_live.specs.TextLines.{IsClosed, left_by};
+ghost use Rattle.gd_serving.specs.Lines.{text_of_lines};
+ghost use Rattle.gd_live.specs.Fronts.{front_from, front_of, longer_front, ended_front};
 
 /// The records of a closed text and of the bytes behind it are those of both.
 pub fn closed_text_joins()

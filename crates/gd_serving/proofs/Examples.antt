@@ -1,7 +1,7 @@
 -- Lines, turns and pieces at worked examples: a desk that answers each line by the letter that it stands at, a or b.
 use Rattle.std.proofs.Common.{◌≡◌, inl, inr, ℕ, Bool, true, false, not, List, [], ◌∷◌, ◌++◌, codes, get_or, arith, refl, sym, ap, subst, ◌∙◌, if◌then◌else◌}
 use Rattle.gd_journal_store.specs.Pieces.{Piece}
-use Rattle.gd_serving.specs.Lines.{cut}
+use Rattle.gd_serving.specs.Lines.{cut, text_of_lines}
 use Rattle.gd_serving.specs.Yields.{Yield, replies_of, told_of, piece_of, kept_count, LinesGive}
 use Rattle.gd_serving.specs.Turns.{grown}
 use Rattle.gd_serving.specs.Runs.{EndsAs}
@@ -14,6 +14,9 @@ worked_cut = refl
 
 worked_rest : cut (codes "c") (codes "d\ne") ≡ (codes "cd" ∷ [], codes "e")
 worked_rest = refl
+
+worked_text : text_of_lines (codes "a" ∷ codes "b,c" ∷ []) ≡ 97 ∷ 10 ∷ 98 ∷ 44 ∷ 99 ∷ 10 ∷ []
+worked_text = refl
 
 worked_ends : EndsAs [] Ended × EndsAs (codes "c") Unfinished
 worked_ends = (refl, λ e. cc)

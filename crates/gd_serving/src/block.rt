@@ -12,7 +12,7 @@ use std::alloc::AllocError;
 use std::thread::Threads;
 
 /// The first whole line, and what comes behind its line feed; `None` where no line ends.
-pub(crate) fn first_line(bytes: &[u8]) -> Option<(&[u8], &[u8])>
+pub fn first_line(bytes: &[u8]) -> Option<(&[u8], &[u8])>
     ensures { MatchOption result (HasNoEnd bytes.now)
         (λ p. HasNoEnd p.0.now × (bytes.now ≡ p.0.now ++ 10 ∷ p.1.now)) }
 {

@@ -23,7 +23,7 @@ mod serving;
 mod taking;
 mod turn;
 
-pub use block::take_block;
+pub use block::{first_line, take_block};
 pub use failure::{Failure, Finish};
 pub use given::Given;
 pub use laws::{
