@@ -71,6 +71,9 @@ class Times:
         """Keeps what a process of the gate took until now."""
         if not (process.folder + "/").startswith(self.folder):
             return
+        # (while a large process gives its memory back it has no words any more, and is of no crate by them)
+        if not any(process.words):
+            return
         inside = re.search(r"/crates/(\w+)$", process.folder)
         if EDIT.search(process.folder):
             kind, crate = "edits", process.crate() or SCRIPTS
