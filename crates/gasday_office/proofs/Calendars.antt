@@ -5,10 +5,10 @@ use Rattle.std.proofs.lemmas.List.{map-append, take_more, take-map, length-map}
 use Rattle.std.proofs.lemmas.Option.{slice_get-map}
 use Rattle.gd_day.specs.Opening.{Opened}
 use Rattle.gd_day.specs.declared.text.DayText.{DayText}
-use Rattle.gd_office_text.specs.Calls.{seen_phase, asked_phase, pipelines}
+use Rattle.gasday_office.specs.Calls.{seen_phase, asked_phase, pipelines}
 use Rattle.gd_machine.specs.Day.{Day}
-use Rattle.gd_office_text.specs.Days.{opened}
-use Rattle.gd_office_text.specs.Phases.{Round, phases_of}
+use Rattle.gasday_office.specs.Days.{opened}
+use Rattle.gasday_office.specs.Phases.{Round, phases_of}
 use Rattle.gd_office_part.specs.declared.threads.Phase.{Phase}
 use Rattle.gd_system.specs.Pipeline.{Pipeline}
 use Rattle.gd_text_part.specs.declared.row.Row.{Row}

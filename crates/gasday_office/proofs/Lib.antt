@@ -1,3 +1,9 @@
-mod OpenedBooks
+mod BookNames
 mod Calendars
+mod Cutting
+mod Ending
 mod Ends
+mod OfficeBlocks
+mod OfficeCalls
+mod OfficePhases
+mod OpenedBooks

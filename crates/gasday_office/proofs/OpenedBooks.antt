@@ -7,7 +7,7 @@ use Rattle.gd_book.specs.Kept.{Kept}
 use Rattle.gd_day.specs.declared.text.DayText.{DayText}
 use Rattle.gd_machine.specs.Day.{Day}
 use Rattle.gd_office.specs.Slots.{AreDaysOf}
-use Rattle.gd_office_text.specs.Days.{opened}
+use Rattle.gasday_office.specs.Days.{opened}
 use Rattle.gasday_part.specs.Answers.{day_in}
 use Rattle.gasday_office.specs.Offices.{IsCalendarFor, IsOpenedWith}
 

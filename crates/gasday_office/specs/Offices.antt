@@ -6,9 +6,9 @@ use Rattle.gd_machine.specs.Day.{Day}
 use Rattle.gd_machine.specs.Headline.{IsHistoryOf}
 use Rattle.gd_machine.specs.History.{History}
 use Rattle.gd_office_part.specs.Days.{IsDayOf}
-use Rattle.gd_office_text.specs.Calls.{seen_phase, asked_phase}
-use Rattle.gd_office_text.specs.Days.{days_of}
-use Rattle.gd_office_text.specs.Phases.{phases_of}
+use Rattle.gasday_office.specs.Calls.{seen_phase, asked_phase}
+use Rattle.gasday_office.specs.Days.{days_of}
+use Rattle.gasday_office.specs.Phases.{phases_of}
 use Rattle.gd_office_part.specs.declared.threads.Phase.{Phase}
 use Rattle.gd_office_run.specs.RunRows.{TellsRun, EndsEarly}
 use Rattle.gd_replies.specs.declared.reply.Reply.{Reply}

@@ -4,14 +4,17 @@ ghost use Rattle.std.specs.Prelude.{◌≡◌, ◌&&◌, ◌++◌, ◌∷◌, []
 ghost use Rattle.gd_machine.specs.Day.{Day};
 ghost use Rattle.gd_machine.specs.History.{History};
 ghost use Rattle.gd_office.specs.Slots.{AreDaysOf};
-ghost use Rattle.gd_office_text.specs.Calls.{seen_phase, asked_phase, pipelines};
-ghost use Rattle.gd_office_text.specs.Days.{days_of as days_by, opened};
-ghost use Rattle.gd_office_text.specs.Phases as texts;
+ghost use Rattle.gasday_office.specs.Calls.{seen_phase, asked_phase, pipelines};
+ghost use Rattle.gasday_office.specs.Days.{days_of as days_by, opened};
+ghost use Rattle.gasday_office.specs.Phases as texts;
 ghost use Rattle.gd_rounds.specs.Summaries.{is_in_order};
 ghost use Rattle.gasday_part.specs.AnswerSeen.{answer_seen};
 ghost use Rattle.gasday_office.specs.Offices as spec;
 
+use crate::asked::calls_in;
 use crate::books::{books_of, calendars_of};
+use crate::days::days_of;
+use crate::phases::phases_of;
 use gasday_part::{Answer, of_fault, of_no_calendar};
 use gd_book::Book;
 use gd_day::DayText;
@@ -19,7 +22,6 @@ use gd_desk::Open;
 use gd_office::Office;
 use gd_office_part::{Days, Phase, Slot};
 use gd_office_run::{RunFault, run};
-use gd_office_text::{calls_in, days_of, phases_of};
 use gd_replies::Reply;
 use gd_rounds::{Summary, summary_of};
 use gd_text_part::{Form, Row, rows_in};

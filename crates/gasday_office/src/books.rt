@@ -2,7 +2,7 @@
 
 ghost use Rattle.std.specs.Prelude.{◌≡◌, ◌++◌, ◌∷◌, [], ℕ, List, IfOk, IfErr, OnOk, map, vec_len, length as len_of};
 ghost use Rattle.std.specs.List.{AllZip};
-ghost use Rattle.gd_office_text.specs.Days.{opened};
+ghost use Rattle.gasday_office.specs.Days.{opened};
 ghost use Rattle.gasday_part.specs.Answers.{ExplainsDay, day_in};
 ghost use Rattle.gasday_office.specs.Offices as spec;
 

@@ -1,40 +1,12 @@
-//! The program's parts by calls: words, texts from slow and failing readers, answers to slow and failing writers; and the file of a gas
-//! day's book: opened, gone on with, audited and printed, served in parts, cut anywhere, with readers, writers and disks that fail,
-//! and files that keep no book. The journal that it is, too: pieces of any bytes, changed by hand, and files of other tables. And an
-//! archive, on disks that stop at each of their calls.
+//! The program's parts by calls: words of the command line, texts from slow and failing readers, and answers to slow and failing
+//! writers.
 //!
 //! There is nothing here but tests.
 #![tactic(auto)]
 
 #[cfg(test)]
-mod archives;
-#[cfg(test)]
-mod changed;
-#[cfg(test)]
-mod damaged;
-#[cfg(test)]
-mod day;
-#[cfg(test)]
-mod disks;
-#[cfg(test)]
-mod foreign;
-#[cfg(test)]
-mod kept;
-#[cfg(test)]
-mod pieces;
-#[cfg(test)]
-mod postings;
-#[cfg(test)]
 mod reading;
 #[cfg(test)]
 mod running;
 #[cfg(test)]
-mod runs;
-#[cfg(test)]
-mod stopped;
-#[cfg(test)]
-mod streams;
-#[cfg(test)]
 mod words;
-#[cfg(test)]
-mod works;

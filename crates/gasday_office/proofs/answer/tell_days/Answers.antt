@@ -1,6 +1,6 @@
 use Rattle.std.proofs.Common.{◌≡◌, length, vec_len, map, inr, refl, rules}
 use Rattle.std.proofs.lemmas.Result.{IfOk-weaker}
-use Rattle.gd_office_text.specs.Phases.{phases_of}
+use Rattle.gasday_office.specs.Phases.{phases_of}
 use Rattle.gasday_office.proofs.Calendars.{tells_days}
 use Rattle.gasday_office.proofs.answer.tell_days.Goals as goal
 

@@ -1,7 +1,7 @@
 use Rattle.std.proofs.Common.{◌≡◌, ◌+◌, map, vec_len}
 use Rattle.std.specs.List.{AllZip}
 use Rattle.std.specs.Vec.Iter.{into_iter_items, into_iter_len}
-use Rattle.gd_office_text.specs.Days.{opened}
+use Rattle.gasday_office.specs.Days.{opened}
 use Rattle.gasday_office.specs.Offices.{IsCalendarFor}
 use Rattle.gasday_office.proofs.OpenedBooks.{AreOpenedSo}
 use Rattle.gasday_office.proofs.books.books_of.Given as goal

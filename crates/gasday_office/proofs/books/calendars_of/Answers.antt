@@ -3,7 +3,7 @@ use Rattle.std.specs.List.{AllZip}
 use Rattle.std.proofs.lemmas.List.{take_all}
 use Rattle.std.proofs.lemmas.Grind.{common_steps}
 use Rattle.gd_day.specs.declared.text.DayText.{DayText}
-use Rattle.gd_office_text.specs.Days.{opened}
+use Rattle.gasday_office.specs.Days.{opened}
 use Rattle.gasday_office.specs.Offices.{IsCalendarFor}
 use Rattle.std.proofs.lemmas.Result.{err_from_is_err_and}
 use Rattle.gasday_office.proofs.Calendars.{lacks_at, calendars_more, have_calendars}

@@ -1,6 +1,6 @@
 use Rattle.std.proofs.Common.{◌≡◌, map, take, vec_len}
 use Rattle.std.specs.List.{AllZip}
-use Rattle.gd_office_text.specs.Days.{opened}
+use Rattle.gasday_office.specs.Days.{opened}
 use Rattle.gasday_office.specs.Offices.{IsCalendarFor}
 use Rattle.gasday_office.proofs.books.calendars_of.Given as goal
 

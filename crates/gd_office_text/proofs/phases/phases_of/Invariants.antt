@@ -1,7 +1,0 @@
-use Rattle.std.proofs.Common.{◌≡◌, drop}
-use Rattle.gd_office_text.specs.Phases.{phases_of, phases_with}
-use Rattle.gd_office_text.proofs.phases.phases_of.Given as goal
-
--- The phases so far, and those that are left, are all.
-abbrev pub invariant-rows : goal.invariant-rows
-invariant-rows l = phases_with l.phases.items l.sessions.items (drop l.index l.rows) ≡ phases_of l.rows

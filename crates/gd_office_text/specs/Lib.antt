@@ -1,4 +1,0 @@
-pub mod Blocks
-pub mod Calls
-pub mod Days
-pub mod Phases
