@@ -2,7 +2,7 @@
 """make_release.py [--dirty] PROGRAM GATE_LOG FOLDER
 
 Makes FOLDER/gasday-COMMIT.tar.gz of this tree, where `dpkg-deb` is installed a Debian package of the same files, and the SHA-256
-of each beside it. PROGRAM is the built `gasday`, GATE_LOG what `tests/run` told at that commit: that both belong to it is for the
+of each beside it. PROGRAM is the built `gasday`, GATE_LOG what `.ci/run` printed at that commit: that both belong to it is for the
 caller to see to. A log whose last line isn't 'N passed, 0 failed' is refused.
 
 In the archive are the program, the manual pages, completions, examples, the companion folder, the documents, the gate's log and
