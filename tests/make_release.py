@@ -34,7 +34,7 @@ from try_release import ZSH, Refused, installed, try_tools, unpacked
 
 TOP = Path(__file__).resolve().parents[1]
 FOLDERS = ("man", "completions", "examples", "companion", "docs")
-GREEN = re.compile(rb"[1-9][0-9]* passed, 0 failed")
+GREEN = re.compile(rb"[1-9][0-9]* passed, 0 failed(, [0-9]+ skipped)?")
 # Which package has what the program is linked to.
 LIBRARIES = {b"libc.so.6": "libc6", b"libm.so.6": "libc6", b"libpthread.so.0": "libc6", b"libdl.so.2": "libc6",
              b"libgcc_s.so.1": "libgcc-s1"}

@@ -5,7 +5,6 @@ from typing import NamedTuple
 
 from certificate import Answer, Question, Unreadable, Wrong, verdict_of
 
-from .program import BUILT as BUILT
 from .program import call
 from .program import program_at as program_at
 from .texts import ANSWER_KINDS, Fault, Input, Row, of_kinds, question_text, rows_in, written

@@ -11,17 +11,14 @@ import unittest
 from functools import lru_cache
 from pathlib import Path
 
-from helpers import TOP
+from helpers import GASDAY, TOP
 
 from gasday_desk.clock import Clock
 from gasday_desk.command import make_folder
 from gasday_desk.people import scrypted
 from gasday_desk.settings import User, write_users
-from gasday_report.verdicts import BUILT
 
 COMPANION = TOP / "companion"
-PROGRAM = Path(os.environ.get("GASDAY", BUILT))
-NO_PROGRAM = "no program is built"
 NO_FLASK = "Flask is not installed"
 HAS_FLASK = importlib.util.find_spec("flask") is not None
 BOOK = "TEST-20260308"
@@ -184,14 +181,12 @@ class DeskTest(unittest.TestCase):
     real = False
 
     def setUp(self) -> None:
-        if self.real and not os.access(PROGRAM, os.X_OK):
-            self.skipTest(NO_PROGRAM)
         logging.disable(logging.CRITICAL)
         self.addCleanup(logging.disable, logging.NOTSET)
         folder = tempfile.TemporaryDirectory()
         self.addCleanup(folder.cleanup)
         self.folder = Path(folder.name)
-        self.program = str(PROGRAM.resolve()) if self.real else self.fake()
+        self.program = str(GASDAY) if self.real else self.fake()
         self.clock = HandClock(1772910000)
 
     def fake(self) -> str:

@@ -13,6 +13,11 @@ TOP = Path(__file__).resolve().parents[2]
 sys.path.insert(0, str(TOP / "companion"))
 
 from gasday_report.command import main  # noqa: E402 (the path comes first)
+from gasday_report.program import BUILT  # noqa: E402
+
+# The program that GASDAY names in the environment, or the built one; and what is put before the tests that run it.
+GASDAY = Path(os.environ.get("GASDAY", BUILT)).resolve()
+needs_gasday = unittest.skipUnless(os.access(GASDAY, os.X_OK), "no program is built")
 
 ANSWER_KINDS = ("sched", "price", "inside")
 VERSION = 'if [ "$1" = --version ]; then echo "gasday 9.8"; exit 0; fi\n'  # of a fake program

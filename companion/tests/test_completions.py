@@ -1,7 +1,6 @@
 """Tests of the completions of gasday itself: what bash offers for the words of the command line as `gasday --help` has them, and
 that the other shells read theirs. tests/make_tables.py makes them of the program's command line."""
 
-import os
 import re
 import shutil
 import subprocess
@@ -9,9 +8,9 @@ import tempfile
 import unittest
 from pathlib import Path
 
-TOP = Path(__file__).resolve().parents[2]
+from helpers import GASDAY, TOP, needs_gasday
+
 COMPLETIONS = TOP / "completions" / "gasday.bash"
-BUILT = TOP / "crates" / "gasday" / "out" / "gasday"
 SCRIPT = 'source "$1"; shift; COMP_WORDS=("$@"); COMP_CWORD=$(($# - 1)); _gasday; printf "%s\\n" "${COMPREPLY[@]}"'
 FILES = ["a book.db", "other.db", "text.csv"]
 
@@ -38,10 +37,10 @@ class Completing(unittest.TestCase):
         self.assertEqual(self.offers("x"), [])
         self.assertEqual(self.offers("help", "solve", ""), [])
 
-    @unittest.skipUnless(os.access(BUILT, os.X_OK), "the program is not built")
+    @needs_gasday
     def test_what_the_program_tells(self) -> None:
         def told(*words: str) -> str:
-            return subprocess.run([BUILT, *words, "-h"], capture_output=True, text=True, timeout=600).stdout
+            return subprocess.run([GASDAY, *words, "-h"], capture_output=True, text=True, timeout=600).stdout
 
         listed = told().partition("\nCommands:\n")[2].partition("\n\n")[0]
         commands = re.findall(r"^  ([a-z]+) ", listed, re.M)

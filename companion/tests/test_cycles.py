@@ -12,16 +12,14 @@ from pathlib import Path
 from typing import Any
 
 from day_helpers import EVENING, FIVE_CYCLES, TIMELY, DayTest
-from helpers import TWO_LINES, TWO_LINES_ANSWER
+from helpers import GASDAY, TWO_LINES, TWO_LINES_ANSWER, needs_gasday
 from test_day import EVENTS, REPLIES
 
 from gasday_report.cause_words import cause_words, line_number
 from gasday_report.causes import AnswerCause, EndAnswer
 from gasday_report.confirming import confirmed_by
 from gasday_report.course import Bound
-from gasday_report.program import BUILT
 
-PROGRAM = Path(os.environ.get("GASDAY", BUILT))
 QUESTION = EVENING.partition("sched,")[0]
 ANSWER = EVENING.removeprefix(QUESTION)
 
@@ -187,10 +185,10 @@ class ByWhom(unittest.TestCase):
                          " confirmed 100 and OPD at the destination confirmed 100")
 
 
-@unittest.skipUnless(os.access(PROGRAM, os.X_OK), "no program is built")
+@needs_gasday
 class FiveCycles(DayTest):
     def made(self, *words: str) -> tuple[str, str, object]:
-        program = str(PROGRAM.resolve())
+        program = str(GASDAY)
         events = self.path("events.csv", FIVE_CYCLES)
         told = subprocess.run([program, "day"], input=FIVE_CYCLES.encode(), capture_output=True).stdout
         return self.run_command("--events", events, "--replies", self.path("told.csv", told), "--gasday", program, *words)

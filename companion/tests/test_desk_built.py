@@ -18,7 +18,7 @@ from functools import lru_cache
 from pathlib import Path
 
 from desk_helpers import NO_SERVER, DeskTest, serving_python
-from helpers import TOP
+from helpers import TOP, needs_gasday
 from test_desk_view import FALLING, FALLING_TOLD, falling
 
 from gasday_desk.answers import answer_of, cut_of, question_of, shown_of
@@ -45,6 +45,7 @@ def browser_python() -> str | None:
     return None
 
 
+@needs_gasday
 class Built(DeskTest):
     real = True
 

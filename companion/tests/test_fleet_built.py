@@ -1,28 +1,24 @@
 """gasday-fleet with the built program, where there is one, or the one that GASDAY names in the environment."""
 
-import os
 import shutil
 import sqlite3
 import subprocess
 import unittest
-from pathlib import Path
 
 from fleet_helpers import FleetTest, cells_of, dask_python, rows_of
-from helpers import TOP
+from helpers import GASDAY, TOP, needs_gasday
 
 from certificate import Answer, Question, verdict_of
-from gasday_report.verdicts import BUILT
 
-PROGRAM = Path(os.environ.get("GASDAY", BUILT))
 DAY = TOP / "examples" / "gas-day" / "two-cycles.csv"
 STUDY = [str(TOP / "examples" / "study" / name) for name in ("base.csv", "scenarios.csv")]
 
 
-@unittest.skipUnless(os.access(PROGRAM, os.X_OK), "no program is built")
+@needs_gasday
 class Built(FleetTest):
     def setUp(self) -> None:
         super().setUp()
-        self.program = PROGRAM.resolve()
+        self.program = GASDAY
 
     def gasday(self, *words: str, text: bytes) -> bytes:
         return subprocess.run([self.program, *words], input=text, cwd=self.folder, capture_output=True, timeout=600).stdout

@@ -1,13 +1,12 @@
 """Tests of gasday-import on a gas day: local times, and confirmations that name contract, package and ends. The moments are
 those that `date` gives for the rule of the zone; what is confirmed is an example's own text."""
 
-import os
 import unittest
 
+from helpers import GASDAY, needs_gasday
 from import_helpers import TOP, Importing
 
 EXAMPLE = TOP / "examples" / "gas-day" / "two-cycles.csv"
-BUILT = TOP / "crates" / "gasday" / "out" / "gasday"
 ZONE = '"CST6CDT,M3.2.0,M11.1.0"'
 DAY = f"day,2026-03-08,{ZONE},DEMO,,,,\n"
 
@@ -128,10 +127,10 @@ class Confirmations(Importing):
         self.refuses(header + "respond,4,OPR,3,C1,P,R1,D1,Delivery,5\n",
                      told=("the header can't be followed for respond rows: line 2",))
 
-    @unittest.skipUnless(os.access(BUILT, os.X_OK), "the program is not built")
+    @needs_gasday
     def test_an_example_by_the_clock_and_by_names(self) -> None:
         calls, day = self.put("calls.csv", CALLS), self.put("day.csv", opening())
-        self.imports("", EXAMPLE.read_text(), day, calls, "--gasday", str(BUILT))
+        self.imports("", EXAMPLE.read_text(), day, calls, "--gasday", str(GASDAY))
 
 
 if __name__ == "__main__":

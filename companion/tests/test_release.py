@@ -3,7 +3,6 @@ version; and a whole release where the program is built, or GASDAY names one in 
 
 import hashlib
 import importlib
-import os
 import shutil
 import subprocess
 import sys
@@ -12,14 +11,11 @@ import unittest
 from pathlib import Path
 from typing import Any
 
-from helpers import TOP
-
-from gasday_report.verdicts import BUILT
+from helpers import GASDAY, TOP, needs_gasday
 
 sys.path.insert(0, str(TOP / "tests"))
 make_release: Any = importlib.import_module("make_release")
 
-PROGRAM = Path(os.environ.get("GASDAY", BUILT))
 FAKE, LOG = b"#!/bin/sh\necho 'gasday 1.0.0 (of a test)'\n", b"cases: 7 passed, 0 failed\n1234 passed, 0 failed\n"
 TOOLS = {"gasday", "gasday-audit", "gasday-certificate", *(path.name for path in (TOP / "companion").glob("gasday-*"))}
 
@@ -46,10 +42,12 @@ class Release(unittest.TestCase):
 
     def test_logs(self) -> None:
         for words in (b"", b"7 passed, 1 failed\n", b"7 passed, 10 failed\n", LOG + b"and more\n", b"0 passed, 0 failed\n",
-                      b"books did not come to the end\n0 passed, 1 failed\n", b"manual: 7 passed, 0 failed\n"):
+                      b"books did not come to the end\n0 passed, 1 failed\n", b"manual: 7 passed, 0 failed\n", b"7 passed, 1 failed, 2 skipped\n",
+                      b"0 passed, 0 failed, 2 skipped\n", b"7 passed, 0 failed, and more\n"):
             with self.assertRaises(make_release.Refused):
                 make_release.release_of(FAKE, words, True)
-        make_release.release_of(FAKE, LOG, True)
+        for words in (LOG, b"7 passed, 0 failed, 12 skipped\n"):
+            make_release.release_of(FAKE, words, True)
         program, log = self.folder / "gasday", self.folder / "log"
         program.write_bytes(FAKE)
         log.write_bytes(b"7 passed, 1 failed\n")
@@ -89,11 +87,11 @@ class Release(unittest.TestCase):
         self.assertEqual(packed, {f"{name}.gz" if name.startswith("share/man") else name for name in wanted})
         self.assertEqual({line.split()[1] for line in told.splitlines()}, {"root/root"})
 
-    @unittest.skipUnless(os.access(PROGRAM, os.X_OK), "no program is built")
+    @needs_gasday
     def test_a_whole_release_is_tried(self) -> None:
         log, made = self.folder / "log", self.folder / "made"
         log.write_bytes(LOG)
-        words = (TOP / "tests" / "make_release.py", "--dirty", PROGRAM, log, made)
+        words = (TOP / "tests" / "make_release.py", "--dirty", GASDAY, log, made)
         done = subprocess.run([sys.executable, *words], capture_output=True, text=True, timeout=600)
         self.assertEqual((done.stderr, done.returncode), ("", 0))
         files = [path for path in sorted(made.iterdir()) if path.suffix != ".sha256"]
