@@ -42,8 +42,8 @@ class Release(unittest.TestCase):
 
     def test_logs(self) -> None:
         for words in (b"", b"7 passed, 1 failed\n", b"7 passed, 10 failed\n", LOG + b"and more\n", b"0 passed, 0 failed\n",
-                      b"books did not come to the end\n0 passed, 1 failed\n", b"manual: 7 passed, 0 failed\n", b"7 passed, 1 failed, 2 skipped\n",
-                      b"0 passed, 0 failed, 2 skipped\n", b"7 passed, 0 failed, and more\n"):
+                      b"books did not come to the end\n0 passed, 1 failed\n", b"manual: 7 passed, 0 failed\n",
+                      b"7 passed, 1 failed, 2 skipped\n", b"0 passed, 0 failed, 2 skipped\n", b"7 passed, 0 failed, and more\n"):
             with self.assertRaises(make_release.Refused):
                 make_release.release_of(FAKE, words, True)
         for words in (LOG, b"7 passed, 0 failed, 12 skipped\n"):

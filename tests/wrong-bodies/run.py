@@ -11,35 +11,52 @@ tests and the test. The last line is 'N passed, M failed', and the exit status i
 """
 
 import re
+import shutil
 import subprocess
 import sys
 import tempfile
 from pathlib import Path
 
 HERE = Path(__file__).resolve().parent
-sys.dont_write_bytecode = True
-sys.path.insert(0, str(HERE.parent))
-import prove
-import try_edits
-
+TOP = HERE.parents[1]
 SECONDS = 1800
+LINE = re.compile(r"^(crate|file|old|new|fails):(?: (.*))?$", re.M)
 
 
-def told(text, key):
-    """What a line of the file says."""
-    return re.search(rf"^{key}: (.*)$", text, re.M)[1]
+def lay(folder):
+    """Lays a copy of all crates, as they are, without what was built and what must fail."""
+    shutil.copytree(TOP / "crates", folder / "crates", ignore=shutil.ignore_patterns("out", "must-fail"))
+    for name in ("crates.txt", "HANDLES"):
+        shutil.copyfile(TOP / name, folder / name)
+    # (rt looks for the top of a repository)
+    (folder / ".git").mkdir()
+
+
+def apply(edit, crate):
+    """Makes the changes of an edit in a crate's folder; what is wrong with it, or nothing."""
+    file = old = None
+    for word, text in edit:
+        if word == "file":
+            file = crate / text
+        elif word == "old":
+            old = text
+        elif word == "new":
+            before = file.read_text()
+            if before.count(old) != 1:
+                return f"it can't be applied: {old.strip()} stands {before.count(old)} times in {file.name}, and not once"
+            file.write_text(before.replace(old, text or ""))
+    return ""
 
 
 def tried(path, folder):
     """Whether the test that a wrong body names fails over it, and what was told."""
-    text = path.read_text()
-    crate, (tests, test) = told(text, "crate"), told(text, "fails").split(" ")
-    prove.lay(folder, prove.wanted([tests]))
-    changed, why = try_edits.RT.edited(text, str(folder / "crates" / crate))
+    lay(folder)
+    edit = LINE.findall(path.read_text())
+    words = dict(edit)
+    tests, test = words["fails"].split(" ")
+    why = apply(edit, folder / "crates" / words["crate"])
     if why:
-        return False, f"it can't be applied: {why}"
-    for file, now in changed.items():
-        (folder / "crates" / crate / file).write_text(now)
+        return False, why
     ran = subprocess.run(["rt", "try", "--test"], cwd=folder / "crates" / tests, stdin=subprocess.DEVNULL,
                          stdout=subprocess.PIPE, stderr=subprocess.STDOUT, text=True, timeout=SECONDS)
     failed = re.search(rf"^.*\b{test}\b.*$", ran.stdout, re.M)
@@ -53,7 +70,7 @@ def main():
     counts = [0, 0]
     for name in sys.argv[1:] or sorted(it.stem for it in HERE.glob("*.edit")):
         with tempfile.TemporaryDirectory(prefix="gasday-wrong-body-") as folder:
-            is_caught, why = tried(HERE / f"{name}.edit", Path(folder) / "repo")
+            is_caught, why = tried(HERE / f"{name}.edit", Path(folder))
         counts[not is_caught] += 1
         print(f"{name}: {'the test fails' if is_caught else 'FAILED'}: {why}", flush=True)
     print(f"{counts[0]} passed, {counts[1]} failed")
