@@ -2,7 +2,7 @@
 """check_companion.py [NAME ..]
 
 Runs the tests of the companion's programs, of examples/audit and of the completions (companion/tests/test_NAME.py), and `mypy
---strict` and `ruff check` over all that is Python there; or only those that are named, such as `day` or `mypy`. The tests take the
+--strict` and `ruff check` over all the Python there; or only those that are named, such as `day` or `mypy`. The tests take the
 program that GASDAY names in the environment, or the built one. What isn't installed or built is skipped, with a line for each
 reason. The last line is 'N passed, M failed', and ', K skipped' where some are; the exit status is 0 only where none failed.
 """
