@@ -210,7 +210,9 @@ def other_tables(archives, whole, rows):
 
 def not_writable(archives, whole):
     """A file or a folder that can't be written, for who isn't root: what is only read is told as of one that can be."""
-    prefix = ("setpriv", "--reuid=65534", "--regid=65534", "--clear-groups") if os.geteuid() == 0 else ()
+    # (root without these rights may write no more than others)
+    rights = "-dac_override,-dac_read_search"
+    prefix = ("setpriv", f"--bounding-set={rights}", f"--inh-caps={rights}") if os.geteuid() == 0 else ()
     folder = archives.folder / "closed"
     folder.mkdir()
     path = folder / "kept.db"
@@ -276,7 +278,6 @@ def main():
         return 2
     with tempfile.TemporaryDirectory() as name:
         folder = Path(name)
-        folder.chmod(0o755)
         archives = Archives(os.path.abspath(sys.argv[1]), folder)
         rows, status = archives.run("day", "--archive", folder / "first.db", text=DAY)
         archives.note("a day is kept", status == 0)
