@@ -14,6 +14,7 @@ A test that fails is printed. The last line is 'N passed, M failed', and the exi
 """
 
 import os
+import shlex
 import subprocess
 import sys
 import tempfile
@@ -276,7 +277,7 @@ def drawn(program, trial, numbers):
 def cases(program, trial, mode, folder):
     """Runs the cases of `solve` through a trial; the counts of passed and failed."""
     stand_in = Path(folder) / mode
-    stand_in.write_text(STAND_IN.format(program=program, trial=trial, mode=mode))
+    stand_in.write_text(STAND_IN.format(program=shlex.quote(program), trial=shlex.quote(trial), mode=mode))
     stand_in.chmod(0o755)
     done = subprocess.run([HERE / "cases" / "run.py", stand_in, "solve"], stdout=subprocess.PIPE, text=True)
     lines = done.stdout.splitlines()

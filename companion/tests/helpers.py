@@ -4,6 +4,7 @@ import contextlib
 import io
 import os
 import re
+import shlex
 import sys
 import tempfile
 import unittest
@@ -82,7 +83,7 @@ class ReportTest(unittest.TestCase):
 
     def program(self, told: str | bytes, status: int = 0) -> str:
         """A program that tells so whatever it is asked but its version, and keeps its words and its text beside itself."""
-        here = self.folder.name
+        here = shlex.quote(self.folder.name)
         self.path("told", told)
         path = self.path("gasday", f'#!/bin/sh\n{VERSION}echo "$@" >> {here}/words\ncat > {here}/text\ncat {here}/told\n'
                          f"exit {status}\n")

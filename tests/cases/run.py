@@ -2,7 +2,8 @@
 """run.py COMMAND [GROUP | GROUP/CASE ..]
 
 Runs the acceptance cases beside this file, of the groups or cases that are named or of all, with
-COMMAND as the beginning of the command line: tests/cases/run.py crates/gasday/out/gasday
+COMMAND, a program or a command line in one word, as the beginning of the command line:
+tests/cases/run.py crates/gasday/out/gasday
 
 A case is a file GROUP/CASE.case of parts, each behind a line `-- PART --` (the form of Go's txtar), and is run in an
 empty folder of its own. A part whose bytes a line of text can't show stands behind `-- PART escaped --` with backslash
@@ -51,7 +52,7 @@ class Wrong(Exception):
 
 def words_of(command):
     """The words of COMMAND, with absolute paths: each case runs in a folder of its own."""
-    words = shlex.split(command)
+    words = [command] if os.path.isfile(command) else shlex.split(command)
     if not words:
         raise SystemExit("run: COMMAND is empty")
     return [os.path.abspath(word) if os.path.isfile(word) and (place or os.sep in word) else word
