@@ -18,9 +18,11 @@ import tempfile
 from pathlib import Path
 
 HERE = Path(__file__).resolve().parent
-TOP = HERE.parents[1]
+sys.dont_write_bytecode = True
+sys.path.insert(0, str(HERE.parent))
+from check_edits import TOP, Fault, edited, field
+
 SECONDS = 1800
-LINE = re.compile(r"^(crate|file|old|new|fails):(?: (.*))?$", re.M)
 
 
 def lay(folder):
@@ -32,31 +34,17 @@ def lay(folder):
     (folder / ".git").mkdir()
 
 
-def apply(edit, crate):
-    """Makes the changes of an edit in a crate's folder; what is wrong with it, or nothing."""
-    file = old = None
-    for word, text in edit:
-        if word == "file":
-            file = crate / text
-        elif word == "old":
-            old = text
-        elif word == "new":
-            before = file.read_text()
-            if before.count(old) != 1:
-                return f"it can't be applied: {old.strip()} stands {before.count(old)} times in {file.name}, and not once"
-            file.write_text(before.replace(old, text or ""))
-    return ""
-
-
 def tried(path, folder):
-    """Whether the test that a wrong body names fails over it, and what was told."""
+    """Whether the test that a wrong body names fails over it, and what `rt` printed."""
     lay(folder)
-    edit = LINE.findall(path.read_text())
-    words = dict(edit)
-    tests, test = words["fails"].split(" ")
-    why = apply(edit, folder / "crates" / words["crate"])
-    if why:
-        return False, why
+    text = path.read_text()
+    tests, test = field(text, "fails").split(" ")
+    try:
+        changed = edited(text, folder / "crates" / field(text, "crate"))
+    except Fault as fault:
+        return False, f"it can't be applied: {fault}"
+    for file, now in changed.items():
+        file.write_text(now)
     ran = subprocess.run(["rt", "try", "--test"], cwd=folder / "crates" / tests, stdin=subprocess.DEVNULL,
                          stdout=subprocess.PIPE, stderr=subprocess.STDOUT, text=True, timeout=SECONDS)
     failed = re.search(rf"^.*\b{test}\b.*$", ran.stdout, re.M)
