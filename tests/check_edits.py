@@ -31,13 +31,15 @@ def field(text: str, name: str) -> str:
 def edited(text: str, crate: Path) -> dict[Path, str]:
     """The files of a crate that an edit changes, as they are then."""
     texts: dict[Path, str] = {}
-    file, old, before = crate, "", {}
+    before: dict[Path, str] = {}
+    file, old = crate, ""
     for word, what in LINE.findall(text):
         if word == "file":
             file = crate / what
             if not re.match(r"(?:src|specs|proofs)/", what) or not file.is_file():
                 raise Fault(f"it names no file of the crate: {what}")
-            before[file] = texts.setdefault(file, file.read_text(encoding="utf-8"))
+            if file not in texts:
+                texts[file] = before[file] = file.read_text(encoding="utf-8")
         elif word == "old":
             old = what
         elif word == "new":

@@ -17,9 +17,9 @@ The commands with an archive are run once more on the file that they left, with 
 has to be there whole, and what was told as refused not at all. So are those on a book's file; and a live day's file has to be
 replayed with all that was told, or to keep no book where nothing was.
 
-A library that is loaded before the C library refuses the allocation: refuse_memory.c, which takes a C compiler, as `cc`. Without a
-compiler all of this is skipped, and without TRIAL its two trials. The last line is 'N passed, M failed', and ', K skipped' where some are; the
-exit status is 0 only where none failed.
+A library that is loaded before the C library refuses the allocation: refuse_memory.c, which takes a C compiler, as `cc`. Without
+a compiler all of this is skipped, and without TRIAL its two trials. The last line is 'N passed, M failed', and ', K skipped' where
+some are; the exit status is 0 only where none failed.
 """
 
 import os
