@@ -1,12 +1,17 @@
 """Headers: which column of a file has which field of a row."""
 
+import difflib
 from dataclasses import dataclass, field
 
 from .forms import FIELDS, Form, forms_of
 from .log import Log, Place
 from .titles import KIND_NAMES, OPTIONAL, all_names, names_in, names_of, rank
+from .units import OURS, QUANTITIES, is_taken, units_in
 
 WAYS = "name it so, or begin the header with # if each field stands where `gasday` has it"
+# Fields that no column is taken for by its place: a column that is named otherwise may well be the other one of the two.
+NEVER_TAKEN = {"FLOOR", "CEILING"}
+LIKE = 0.75
 
 
 @dataclass(frozen=True)
@@ -34,6 +39,18 @@ def is_header(fields: tuple[str, ...]) -> bool:
     names = [names_in(title) for title in fields]
     known = all_names() | set(KIND_NAMES)
     return any(set(name) & set(KIND_NAMES) for name in names[1:]) and all(known & set(name) for name in names if name)
+
+
+def names_a_field(fields: tuple[str, ...]) -> bool:
+    """Whether a row names at least one field, or the kind of row, so that it may be a header."""
+    known = all_names() | set(KIND_NAMES)
+    return any(known & set(names_in(title)) for title in fields)
+
+
+def is_like(words: tuple[str, ...], names: tuple[str, ...]) -> bool:
+    """Whether a title is a short or misspelt form of a field's name: `Cap`, or `capacty`, of capacity."""
+    return any(name.startswith(word) or difflib.get_close_matches(word, [name], 1, LIKE)
+               for word in words if len(word) > 1 for name in names)
 
 
 def kind_column(names: list[tuple[str, ...]]) -> int | None:
@@ -81,17 +98,24 @@ class Header:
         if stays:  # then a column without a name has what would stand there without a header
             places = [own if at is None and not self.is_named(own) else at for own, at in enumerate(places, 1)]
         lacking = [own for own, (title, at) in enumerate(zip(form, places, strict=True)) if at is None and title not in OPTIONAL]
-        taken = lacking[0] if stays and len(lacking) == 1 and self.is_strange(lacking[0] + 1) else None
+        taken = lacking[0] if stays and len(lacking) == 1 and self.is_short(lacking[0] + 1, kind, form[lacking[0]]) else None
         if taken is not None:
             places[taken] = taken + 1
         elif lacking:
             wrong.append(f"no column is named {' or '.join(names_of(kind, form[own])[0] for own in lacking)}")
+        wrong += [f"{self.label(at)} is in {unit}: {OURS}" for title, at in zip(form, places, strict=True)
+                  if title in QUANTITIES and at is not None for unit in self.other_units(at)[:1]]
         labels = [*map(self.label, (self.kind_at, *places)), *[""] * (FIELDS - 1 - len(places))]
         return Columns(form, tuple(places), stays, tuple(wrong), taken, tuple(labels))
 
-    def is_strange(self, at: int) -> bool:
-        """Whether a column has a name that no field has."""
-        return self.is_named(at) and not set(self.names[at]) & (all_names() | set(KIND_NAMES))
+    def is_short(self, at: int, kind: str, title: str) -> bool:
+        """Whether a column has a name that no field has, and that is like one of this field's."""
+        is_strange = self.is_named(at) and not set(self.names[at]) & (all_names() | set(KIND_NAMES))
+        return is_strange and title not in NEVER_TAKEN and is_like(self.names[at], names_of(kind, title))
+
+    def other_units(self, at: int) -> list[str]:
+        """The units that a column's title names and that no text has."""
+        return [unit for unit in units_in(self.titles[at] if at < len(self.titles) else "") if not is_taken(unit)]
 
     def is_named(self, at: int) -> bool:
         return at < len(self.names) and bool(self.names[at])

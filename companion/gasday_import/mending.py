@@ -2,7 +2,7 @@
 
 from dataclasses import dataclass, field
 
-from .fields import NAME, Marks, mended_field
+from .fields import NAME, UPPER, Marks, mended_field
 from .forms import FIELDS, KINDS, NAMED_RESPOND, Form, is_name
 from .log import Log
 from .rows import Row, written
@@ -16,6 +16,7 @@ class Left:
     names: list[tuple[Row, int]] = field(default_factory=list)  # rows with the place of a field that is no name
     times: list[Row] = field(default_factory=list)
     lines: list[Row] = field(default_factory=list)  # confirmations that name their line's contract
+    small: dict[tuple[Row, int], str] = field(default_factory=dict)  # names that were made upper case, as they were written
 
 
 def eight_fields(row: Row, titles: Form, log: Log) -> list[str]:
@@ -49,8 +50,11 @@ def mend_behind_kind(row: Row, titles: Form, fields: list[str], marks: Marks, le
             log.error(row.place, f"{label} ({text!r}) {mended.why}")
         elif mended.field != text:
             doubt = f", doubtful: {mended.doubt}" if mended.doubt else ""
-            log.repair(row.place, mended.why, f"{label}: {text} made {mended.field}{doubt}", bool(doubt))
+            log.repair(row.place, mended.why, f"{label}: {text} made {mended.field}{doubt}", bool(doubt),
+                       once=mended.doubt if marks.agree else "")
             fields[number - 1] = mended.field
+            if mended.why == UPPER:
+                left.small[row, number - 1] = text
 
 
 def mend(row: Row, marks: Marks, left: Left, log: Log) -> None:

@@ -32,6 +32,7 @@ class Names:
     data: bytes = b""
     names: dict[str, str] = field(default_factory=dict)
     new: list[tuple[str, str]] = field(default_factory=list)
+    writings: set[str] = field(default_factory=set)  # as the table has them, less differences of blanks alone
 
     def add(self, text: str, taken: set[str]) -> str:
         """Gives a name that nothing else has."""
@@ -102,6 +103,7 @@ def add_row(names: Names, place: Place, row: list[str]) -> None:
         raise Fault(f"{place}: {row[0]!r} is a name already, and can't be called {row[1]}")
     if names.names.setdefault(key, row[1]) != row[1]:
         raise Fault(f"{place}: {row[0]!r} has the name {names.names[key]} further up")
+    names.writings.add(" ".join(row[0].split()))
 
 
 def give_names(names: Names, left: list[tuple[Row, int]], rows: list[Row], log: Log) -> None:

@@ -7,13 +7,16 @@ import re
 from dataclasses import dataclass
 
 from .forms import KINDS
-from .headers import Header, Taken, is_header
+from .headers import Header, Taken, is_header, names_a_field
 from .log import Log, Place
 from .rows import Row
 
 # What is no row, with how several are called.
 EMPTY, HEADER = ("empty row", "empty rows"), ("header row", "header rows")
 NOTE = ("row that begins with #", "rows that begin with #")
+# What a spreadsheet shows in place of a value that it can't work out.
+FAULT = re.compile(r"#(?:[A-Z0-9/_\u00c0-\u00dc]{2,16}[!?]|N/A|NV|N/D|GETTING_DATA)")
+MARKUP = re.compile(r"\s*<[!?/A-Za-z]")
 SEPARATORS = {",": "commas", ";": "semicolons", "\t": "tabs"}
 KIND_FIRST = re.compile(rf'\s*"?\s*(?:{"|".join(KINDS)}) *"? *([,;\t])', re.IGNORECASE)
 
@@ -73,13 +76,30 @@ def separator_of(name: str, lines: list[str], log: Log) -> str:
 
 
 def is_title(fields: tuple[str, ...]) -> bool:
-    """Whether a file's first row is a header: its first field has no digit and isn't like a kind, and no other begins
-    with a digit; or else a field says that the kinds of rows are below it."""
+    """Whether a file's first row would be a header, if it names a field: its first field has no digit and isn't like a kind,
+    and no other begins with a digit; or else a field says that the kinds of rows are below it."""
     if is_header(fields):
         return True
     if re.search("[0-9]", fields[0]) or any(field.strip()[:1].isdigit() for field in fields):
         return False
     return not difflib.get_close_matches(fields[0].strip().lower(), KINDS, 1, 0.75)
+
+
+def fault_in(fields: tuple[str, ...]) -> str:
+    """What is wrong with the first field in which a spreadsheet shows a fault; nothing where none does."""
+    faults = ((at, field.strip()) for at, field in enumerate(fields, 1) if "#" in field)
+    return next((f"column {at} has the fault {text}" for at, text in faults if FAULT.fullmatch(text)), "")
+
+
+def why_no_row(fields: tuple[str, ...], is_first: bool) -> str:
+    """Why a record can be no row and may not be dropped, whatever its kind is; nothing where it may be one of these."""
+    if not fault_in(fields[:1]) and dropped(fields, False):
+        return ""
+    fault = fault_in(fields)
+    if fault or not is_first or not is_title(fields) or names_a_field(fields):
+        return fault
+    return (f"{fields[0].strip()[:40]!r} begins no row, and no field that is known is named here, so that this is no header"
+            " either: begin it with # if it is a remark")
 
 
 def dropped(fields: tuple[str, ...], is_first: bool) -> tuple[str, str] | None:
@@ -120,13 +140,16 @@ class Reader:
         place = Place(self.name, at + 1)
         if not record.fields:
             return None
+        why = why_no_row(record.fields, self.is_first)
+        if why:
+            self.log.error(place, why)
+            return None
         what = dropped(record.fields, self.is_first)
         if what:
             self.log.repair(place, f"{what[1]} dropped", f"{what[0]} dropped")
             if what == HEADER:
                 self.header, self.is_first = Header(place, record.fields, self.log), False
             return None
-        self.is_first = False
         header = self.header
         kind_at = header.kind_at if header else 0
         word = record.fields[kind_at] if kind_at < len(record.fields) else ""
@@ -135,6 +158,7 @@ class Reader:
             label = header.label(kind_at) if header and kind_at else "field 1"
             self.log.error(place, f"{label} ({word!r}) is no kind of row")
             return None
+        self.is_first = False
         taken = header.taken(kind, record.fields, at + 1) if header else Taken(record.fields)
         if not taken:
             return None
@@ -142,10 +166,22 @@ class Reader:
         is_own = self.separator == "," and taken.fields == record.fields
         return Row(self.name, at + 1, kind, raw if is_own else "", taken.fields, taken.labels)
 
+    def is_markup(self) -> bool:
+        """Whether the file is a page of HTML or another text with marks, which is told once."""
+        first = next((at for at, line in enumerate(self.lines) if line.strip()), None)
+        if first is None or not MARKUP.match(self.lines[first]):
+            return False
+        begin = self.lines[first].strip()[:20]
+        self.log.error(Place(self.name, first + 1),
+                       f"the file begins with {begin!r}, as HTML or XML does, and is no table: save it as CSV")
+        return True
+
     def rows(self) -> list[Row]:
         """All rows. A line with commas where nothing is to be repaired is a row as it stands, and its fields need no look."""
         rows: list[Row] = []
         lines, at, may_be_clean = self.lines, 0, self.separator == ","
+        if self.is_markup():
+            return rows
         while at < len(lines):
             line = lines[at]
             kind = line.split(",", 1)[0]

@@ -4,9 +4,10 @@ import functools
 import re
 
 from .forms import KINDS, forms_of
+from .units import without_unit
 
 KIND_NAMES = ("kind", "kind of row", "row", "row kind", "row type", "record", "record type")
-AMOUNT = ("capacity", "quantity", "qty", "q", "dth", "dekatherms")
+AMOUNT = ("capacity", "quantity", "qty", "q", "dth", "dekatherms", "mmbtu")
 
 # What a field may be called beside its own name in small letters, which comes first here. Others are called by that alone.
 NAMES = {
@@ -44,19 +45,18 @@ MORE = {
 # What a row may lack.
 OPTIONAL = {"BAND", "SPREAD", "BOOK"}
 
-UNIT = re.compile(r"\(.*?\)|\[.*?\]")
 BETWEEN = re.compile(r"[\W_]+")
 SEVERAL = re.compile(r"[/|]|\bor\b", re.IGNORECASE)
 
 
 def plain(title: str) -> str:
     """A title in small letters, without its unit: `Capacity (Dth/d)` is capacity."""
-    return BETWEEN.sub(" ", UNIT.sub(" ", title)).strip().lower()
+    return BETWEEN.sub(" ", without_unit(title)).strip().lower()
 
 
 def names_in(title: str) -> tuple[str, ...]:
     """What a title says: itself, and each part of one such as `Origin / Band`."""
-    parts = [part for part in map(plain, SEVERAL.split(UNIT.sub(" ", title))) if part]
+    parts = [part for part in map(plain, SEVERAL.split(without_unit(title))) if part]
     whole = plain(title)
     return (whole, *parts) if len(parts) > 1 else (whole,) if whole else ()
 

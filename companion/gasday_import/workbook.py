@@ -10,8 +10,10 @@ from typing import Any
 from gasday_report.texts import Fault
 
 from .forms import FIELDS
+from .hidden import Hidden, hidden_in, runs_of
 from .log import Log, Place
 from .reading import Source
+from .units import OURS, shown_unit
 
 ZIP, OLD = b"PK\x03\x04", b"\xd0\xcf\x11\xe0\xa1\xb1\x1a\xe1"
 SAVE = "save each sheet as CSV (UTF-8)"
@@ -55,26 +57,46 @@ def sources_in(source: Source, only: Sequence[str], log: Log) -> list[Source]:
         if missing:
             raise Fault(f"{source.name} has no sheet {missing[0]!r}: it has {', '.join(map(repr, values))}")
         names = [name for name in values if not only or name in only]
-        return [sheet_source(f"{source.name}[{name}]", values[name], formulas[name], log) for name in names]
+        hidden = hidden_in(source.data, names)
+        return [sheet_source(f"{source.name}[{name}]", values[name], formulas[name], hidden.get(name, Hidden()), log)
+                for name in names]
     except Fault:
         raise
     except Exception as error:  # whatever a damaged workbook makes of its reader
         raise Fault(f"{source.name} is {kind}, which openpyxl can't read: {error}; {SAVE}") from None
 
 
-def sheet_source(name: str, values: Any, formulas: Any, log: Log) -> Source:
+def sheet_source(name: str, values: Any, formulas: Any, hidden: Hidden, log: Log) -> Source:
     """A sheet as a text with commas, a line for each of its rows, whatever size the workbook says that it has."""
     values.reset_dimensions()
     formulas.reset_dimensions()
     out = io.StringIO(newline="")
     writer = csv.writer(out, lineterminator="\n")
+    filled, columns = [], set()  # the rows that have something, and the hidden columns
     for line, cells in enumerate(rows_of(name, values, formulas, log), 1):
         while cells and not cells[-1]:
             cells.pop()
+        if cells:
+            filled.append(line)
+        columns |= {at for at, cell in enumerate(cells, 1) if cell and hidden.has_column(at)} if hidden.columns else set()
         writer.writerow(cells + [""] * (FIELDS - len(cells)))
         if line == 1:
             log.repair(Place(name, 1), "sheets of a workbook read", "a sheet of a workbook: written with commas")
+    report_hidden(name, hidden.is_all and bool(filled), [line for line in filled if line in hidden.rows], sorted(columns), log)
     return Source(name, out.getvalue().encode(), is_sheet=True)
+
+
+def report_hidden(name: str, is_all: bool, rows: list[int], columns: list[int], log: Log) -> None:
+    """Reports what is hidden and has something, since it is read as all else is."""
+    if is_all:
+        log.repair(Place(name, 1), "hidden sheets read", "the sheet is hidden, and is read: --sheet names those to read",
+                   is_doubtful=True)
+    for first, last in runs_of(rows):
+        words = "row is hidden, and is read" if first == last else f"rows to {last} are hidden, and are read"
+        log.repair(Place(name, first), "hidden rows read", f"the {words}: delete what is not meant", is_doubtful=True)
+    for first, last in runs_of(columns):
+        words = f"column {first} is hidden, and is" if first == last else f"columns {first} to {last} are hidden, and are"
+        log.repair(Place(name, 1), "hidden columns read", f"{words} read: delete what is not meant", is_doubtful=True)
 
 
 def rows_of(name: str, values: Any, formulas: Any, log: Log) -> Iterator[list[str]]:
@@ -82,8 +104,9 @@ def rows_of(name: str, values: Any, formulas: Any, log: Log) -> Iterator[list[st
         for at, (cell, formula) in enumerate(zip(cells, asked, strict=True), 1):
             if formula.data_type == "f" and cell.value is None:
                 log.error(Place(name, line), f"the formula in column {at} has no kept value: save the workbook once more")
-            elif cell.data_type == "e":
-                log.error(Place(name, line), f"column {at} has the fault {cell.value}")
+            unit = shown_unit(str(cell.number_format or "")) if isinstance(cell.value, (int, float)) else ""
+            if unit:
+                log.error(Place(name, line), f"column {at} shows the unit {unit} after its number: {OURS}")
         yield [text_of(cell.value, str(cell.number_format or "")) for cell in cells]
 
 

@@ -99,6 +99,13 @@ class Files(Importing):
         self.assertIn(f"{first}:1: header row dropped\n", err)
         self.assertIn(f"{second}:2: padded from 4 to 8 fields\n", err)
 
+    def test_a_last_file_without_rows_leaves_the_end(self) -> None:
+        with tempfile.TemporaryDirectory() as folder:
+            first, second = Path(folder) / "first.csv", Path(folder) / "second.csv"
+            first.write_text(QUESTION)
+            second.write_text("")
+            self.assertEqual(run("", "--strict", str(first), str(second)), (QUESTION.encode(), "", 0))
+
     def test_output_file(self) -> None:
         with tempfile.TemporaryDirectory() as folder:
             place = Path(folder) / "text.csv"
@@ -254,7 +261,8 @@ class Order(Importing):
     def test_events_of_a_gas_day_stay_in_their_order(self) -> None:
         day = ("segment,S1,A,B,1,,,\ncontract,C,SHIP,interruptible,5,,,\nday,2026-01-15,UTC0,DEMO,,,,\n"
                "carry,C,P,R1,D1,1,,\n")
-        events = ("freeze,9,,,,,,\nnominate,1,SHIP,C,P,R1,D1,1\nprice,S1,1,0,,,,\nsched,1,1,,,,,\npublish,9,1,,,,,\n"
+        events = ("freeze,1768500000,,,,,,\nnominate,1768500001,SHIP,C,P,R1,D1,1\nprice,S1,1,0,,,,\nsched,1,1,,,,,\n"
+                  "publish,1768500009,1,,,,,\n"
                   "contract,LATE,SHIP,interruptible,5,,,\n")
         self.assertEqual(run(day + events, "--strict"), ((day + events).encode(), "", 0))
         rows = day.splitlines(keepends=True)
@@ -265,7 +273,7 @@ class Order(Importing):
         contract = "contract,C,SHIP,interruptible,5,,,\n"
         days = [f"day,2026-01-15,UTC0,{book},,,,\n" for book in ("B1", "B2")]
         first, second = (segment + pools + contract + day for day in days)
-        events = "session,1,SHIP,,,,,\ndesk,5,,,,,,\n"
+        events = "session,1,SHIP,,,,,\ndesk,1768500000,,,,,,\n"
         self.imports(first + segment + contract + pools + days[1] + events, first + second + events,
                      "7: contract row moved behind line 9 of standard input")
         self.assertEqual(run(first + second, "--strict"), ((first + second).encode(), "", 0))

@@ -31,7 +31,8 @@ def opening() -> str:
 
 
 class Times(Importing):
-    def takes(self, time: str, moment: int, day: str = DAY) -> None:
+    def takes(self, time: str, moment: int, rule: str = "CST6CDT") -> None:
+        day = DAY.replace("2026-03-08", time[:10]).replace("CST6CDT", rule)
         self.imports(f"{day}freeze,{time},,,,,,\n", f"{day}freeze,{moment},,,,,,\n")
 
     def is_refused(self, time: str, why: str, day: str = DAY) -> None:
@@ -42,7 +43,7 @@ class Times(Importing):
                              ("2026-07-01 9:00", 1782914400), ("2026-12-09 12:05 am", 1796796300),
                              ("2026-12-09 12:30 p.m.", 1796841000)):
             self.takes(time, moment)
-        self.takes("2026-12-09 12:30", 1796844600, DAY.replace("CST6CDT", "MST7MDT"))
+        self.takes("2026-12-09 12:30", 1796844600, "MST7MDT")
 
     def test_by_an_offset_of_their_own(self) -> None:
         for time in ("2026-12-09 17:30Z", "2026-12-09 18:30+01:00", "2026-12-09 11:30-0600", "2026-12-09 11:30 CST"):
@@ -74,7 +75,8 @@ class Times(Importing):
 
     def test_slots_of_an_office_each_by_its_own_zone(self) -> None:
         segment = "segment,S1,A,B,1,,,\n"
-        head = segment + DAY + segment + DAY.replace("CST6CDT", "MST7MDT").replace("DEMO", "OTHER")
+        day = DAY.replace("2026-03-08", "2026-12-09")
+        head = segment + day + segment + day.replace("CST6CDT", "MST7MDT").replace("DEMO", "OTHER")
         calls = "session,{},SHIP,,,,,\npost,{},S1,5,,,,\n"
         self.imports(head + calls.format(2, "2026-12-09 12:30") + calls.format(1, "2026-12-09 12:30"),
                      head + calls.format(2, 1796844600) + calls.format(1, 1796841000))
@@ -83,48 +85,49 @@ class Times(Importing):
 
 class Confirmations(Importing):
     def confirmed(self, *calls: str, want: str = "", told: tuple[str, ...] = (), status: int = 0) -> str:
-        text = DAY + "".join(f"{call}\n" for call in calls)
+        """Calls with moments such as @1, which is a second after 13:15 of the day before."""
+        text = DAY + "".join(f"{call}\n" for call in calls).replace("@", "177291090")
         if status:
             return self.refuses(text, "--gasday", self.fake(), told=told, status=status)
-        return self.imports(text, DAY + want, "--gasday", self.fake(), told=told)
+        return self.imports(text, DAY + want.replace("@", "177291090"), "--gasday", self.fake(), told=told)
 
     def test_lines_are_numbered_by_their_first_acceptance(self) -> None:
-        self.confirmed("nominate,1,SHIP,C1,P,R1,D1,5", "nominate,2,SHIP,C2,P,R1,D1,5", "nominate,3,SHIP,C1,P,R1,D1,7",
-                       "respond,4,OPR,C2,P,R1,D1,Receipt,5", "respond,4,OPD,C1,P,R1,D1,dest,7",
-                       want="nominate,1,SHIP,C1,P,R1,D1,5\nnominate,2,SHIP,C2,P,R1,D1,5\nnominate,3,SHIP,C1,P,R1,D1,7\n"
-                            "respond,4,OPR,2,origin,5,,\nrespond,4,OPD,1,dest,7,,\n",
+        self.confirmed("nominate,@1,SHIP,C1,P,R1,D1,5", "nominate,@2,SHIP,C2,P,R1,D1,5", "nominate,@3,SHIP,C1,P,R1,D1,7",
+                       "respond,@4,OPR,C2,P,R1,D1,Receipt,5", "respond,@4,OPD,C1,P,R1,D1,dest,7",
+                       want="nominate,@1,SHIP,C1,P,R1,D1,5\nnominate,@2,SHIP,C2,P,R1,D1,5\nnominate,@3,SHIP,C1,P,R1,D1,7\n"
+                            "respond,@4,OPR,2,origin,5,,\nrespond,@4,OPD,1,dest,7,,\n",
                        told=("2 lines of confirmations found, the first at standard input:5\n",))
         self.assertEqual(self.runs(), 1)
 
     def test_what_gasday_refuses_is_no_line(self) -> None:
-        self.confirmed("nominate,1,SHIP,BAD,P,R1,D1,5", "nominate,2,SHIP,C2,P,R1,D1,5", "respond,4,OPR,C2,P,R1,D1,origin,5",
-                       want="nominate,1,SHIP,BAD,P,R1,D1,5\nnominate,2,SHIP,C2,P,R1,D1,5\nrespond,4,OPR,1,origin,5,,\n")
+        self.confirmed("nominate,@1,SHIP,BAD,P,R1,D1,5", "nominate,@2,SHIP,C2,P,R1,D1,5", "respond,@4,OPR,C2,P,R1,D1,origin,5",
+                       want="nominate,@1,SHIP,BAD,P,R1,D1,5\nnominate,@2,SHIP,C2,P,R1,D1,5\nrespond,@4,OPR,1,origin,5,,\n")
         self.assertEqual(self.runs(), 2)
-        self.confirmed("nominate,1,SHIP,BAD,P,R1,D1,5", "respond,4,OPR,BAD,P,R1,D1,origin,5", status=1, told=(
+        self.confirmed("nominate,@1,SHIP,BAD,P,R1,D1,5", "respond,@4,OPR,BAD,P,R1,D1,origin,5", status=1, told=(
             "standard input:3: error: no line is found for BAD, package P, from R1 to D1: its nomination at standard input:2 is"
             " refused, UnknownContract, so that there is nothing to confirm: take this row out\n",))
 
     def test_names_that_nobody_nominated_before(self) -> None:
-        self.confirmed("respond,4,OPR,C1,P,R1,D1,origin,5", "nominate,5,SHIP,C1,P,R1,D1,5", status=1, told=(
+        self.confirmed("respond,@4,OPR,C1,P,R1,D1,origin,5", "nominate,@5,SHIP,C1,P,R1,D1,5", status=1, told=(
             "standard input:2: error: no line is found for C1, package P, from R1 to D1: no nomination before it in the text has"
             " these names: write the number of the line\n",))
         self.assertEqual(self.runs(), 0)
 
     def test_where_no_line_can_be_found(self) -> None:
-        row = "respond,4,OPR,C1,P,R1,D1,origin,5\n"
+        row = "respond,1772910904,OPR,C1,P,R1,D1,origin,5\n"
         self.refuses(row, told=("error: no line is found for C1, package P, from R1 to D1: the text has no day row",))
         self.refuses(DAY + "session,1,OPR\n" + row, told=("an office's sessions call side by side",))
-        self.confirmed("skip,7", "nominate,1,SHIP,C1,P,R1,D1,5", "respond,4,OPR,C1,P,R1,D1,origin,5", status=1, told=(
+        self.confirmed("skip,@7", "nominate,@1,SHIP,C1,P,R1,D1,5", "respond,@4,OPR,C1,P,R1,D1,origin,5", status=1, told=(
             "standard input:2: error: `gasday day` tells fault,2,Order of it, so that no lines of confirmations can be found",))
-        self.confirmed("nominate,1,SHIP,C1,P,R1,D1,many", "respond,4,OPR,C1,P,R1,D1,origin,5", status=1, told=(
+        self.confirmed("nominate,@1,SHIP,C1,P,R1,D1,many", "respond,@4,OPR,C1,P,R1,D1,origin,5", status=1, told=(
             "1 confirmations name their lines, which are looked up when all else is right",))
-        self.refuses(DAY + "nominate,1,SHIP,C1,P,R1,D1,5\n" + row, "--gasday", "no-such-program", status=2, told=(
+        self.refuses(DAY + "nominate,1772910901,SHIP,C1,P,R1,D1,5\n" + row, "--gasday", "no-such-program", status=2, told=(
             "gasday-import: there is no program no-such-program; --gasday names one: it is asked for the lines of",))
 
     def test_numbers_stay_and_a_number_with_names_is_refused(self) -> None:
         header = "Kind,Time,Party,Line,Contract,Package,Origin,Dest,End,Qty\n"
-        self.imports(header + "respond,4,OPR,3,,,,,Delivery,5\n", "respond,4,OPR,3,dest,5,,\n")
-        self.refuses(header + "respond,4,OPR,3,C1,P,R1,D1,Delivery,5\n",
+        self.imports(header + "respond,1772910904,OPR,3,,,,,Delivery,5\n", "respond,1772910904,OPR,3,dest,5,,\n")
+        self.refuses(header + "respond,1772910904,OPR,3,C1,P,R1,D1,Delivery,5\n",
                      told=("the header can't be followed for respond rows: line 2",))
 
     @needs_gasday

@@ -24,7 +24,7 @@ for row in (["Kind", "Name", "To", "From", "Capacity"], ["segment", "S1", "B", "
             ["Segment", "S2", "C", "B", "60 000"]):
     sheet.append(row)
 calls = book.create_sheet("Calls")
-calls.append(["day", datetime.datetime(2026, 3, 8), "CST6CDT,M3.2.0,M11.1.0", "DEMO"])
+calls.append(["day", datetime.datetime(2026, 12, 9), "CST6CDT,M3.2.0,M11.1.0", "DEMO"])
 calls["B1"].number_format = "yyyy-mm-dd"
 calls.append(["post", datetime.datetime(2026, 12, 9, 12, 30), "S1", 70])
 calls["B2"].number_format = "yyyy-mm-dd h:mm"
@@ -37,7 +37,7 @@ book.save(sys.argv[1])
 """
 READ = """segment,S1,A,B,50000,,,
 segment,S2,B,C,60000,,,
-day,2026-03-08,"CST6CDT,M3.2.0,M11.1.0",DEMO,,,,
+day,2026-12-09,"CST6CDT,M3.2.0,M11.1.0",DEMO,,,,
 post,1796841000,S1,70,,,,
 """
 
@@ -107,9 +107,9 @@ class Names(Importing):
         self.refuses(TEXT, told=("1: error: field 2 ('North Leg') is no name",))
 
     def test_confirmations_by_names_of_the_table(self) -> None:
-        text = "day,2026-03-08,UTC0,DEMO,,,,\nnominate,5,SHIP,Contract 1,P,R1,D1,5\n"
-        self.imports(text + "respond,6,OPR,contract 1,P,R1,D1,receipt,5\n",
-                     text.replace("Contract 1", "CONTRACT-1") + "respond,6,OPR,1,origin,5,,\n",
+        text = "day,2026-03-08,UTC0,DEMO,,,,\nnominate,1772910905,SHIP,Contract 1,P,R1,D1,5\n"
+        self.imports(text + "respond,1772910906,OPR,contract 1,P,R1,D1,receipt,5\n",
+                     text.replace("Contract 1", "CONTRACT-1") + "respond,1772910906,OPR,1,origin,5,,\n",
                      "--names", "names.csv", "--gasday", self.fake())
 
 
@@ -173,7 +173,7 @@ class Written(Importing):
     def test_a_file_is_whole_or_as_it_was(self) -> None:
         self.put("text.csv", "as it was\n")
         words = [sys.executable, str(Path(__file__).resolve().parents[1] / "gasday-import"), "--output", "text.csv"]
-        day = "day,2026-03-08,UTC0,DEMO,,,,\n" + "post,5,S1,100,,,,\n" * 2000
+        day = "day,2026-03-08,UTC0,DEMO,,,,\n" + "post,1772910905,S1,100,,,,\n" * 2000
         done = subprocess.run(["sh", "-c", 'ulimit -f 1; exec "$@"', "sh", *words], input=day.encode(), cwd=self.folder,
                               capture_output=True, timeout=600)
         self.assertEqual((done.stderr.decode(), done.returncode),
