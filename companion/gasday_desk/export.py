@@ -10,6 +10,8 @@ import tempfile
 import time
 from pathlib import Path
 
+from gasday_import.writing import whole as complete
+
 from .answers import answer_of, day_page, question_of, save, shown_of
 from .journal import Journal
 from .keeper import wanted_file
@@ -136,10 +138,8 @@ def export_day(path: Path, book: str, program: str | None, output: Path | None) 
             write_day(made, journal, book, folder.book_file(book), whole, settings.clock)
             close_files(whole)
             write_sums(whole)
-            new = target.with_name(target.name + ".new")
-            with tarfile.open(new, "w:gz") as archive:
+            with complete(target) as file, tarfile.open(fileobj=file, mode="w:gz") as archive:
                 archive.add(whole, arcname=book)
-            new.replace(target)
     finally:
         journal.close()
     return target

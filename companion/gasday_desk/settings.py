@@ -1,7 +1,6 @@
 """The settings of a desk: `desk.toml`, and its users in `users.toml`, in one folder with all that it keeps."""
 
 import json
-import os
 import re
 import tomllib
 from collections.abc import Mapping
@@ -9,6 +8,8 @@ from dataclasses import dataclass, field
 from pathlib import Path
 from typing import Any
 from zoneinfo import ZoneInfo
+
+from gasday_import.writing import whole
 
 ROLES = ("shipper", "operator", "scheduler", "auditor")
 # What the program takes as a name, and what a book's name has behind its pipeline's: -20260115.
@@ -195,9 +196,5 @@ def write_users(path: Path, users: Mapping[str, User]) -> None:
 
 def write_whole(path: Path, data: bytes, mode: int = 0o644) -> None:
     """Writes a file whole or not at all."""
-    new = path.with_name(path.name + ".new")
-    with open(os.open(new, os.O_WRONLY | os.O_CREAT | os.O_TRUNC, mode), "wb") as file:
+    with whole(path, mode) as file:
         file.write(data)
-        file.flush()
-        os.fsync(file.fileno())
-    os.replace(new, path)

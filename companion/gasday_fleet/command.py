@@ -1,7 +1,7 @@
 """The command: what is run and where, what is told of it, and the exit status."""
 
 import argparse
-import os
+import io
 import signal
 import sys
 from collections import Counter
@@ -10,6 +10,7 @@ from contextlib import contextmanager
 from types import FrameType
 from typing import TextIO
 
+from gasday_import.writing import whole
 from gasday_report.ending import ends_in_order
 from gasday_report.texts import Fault, read_input
 from gasday_report.words import counted
@@ -78,11 +79,12 @@ def told_of(job: Job, table: Table, stopped: str) -> int:
 
 
 def written_to(path: str, write: Callable[[Summary, TextIO], None], summary: Summary) -> None:
-    """A file that is whole or not there."""
-    part = f"{path}.part"
-    with open(part, "w", encoding="utf-8", errors="backslashreplace") as out:
+    """A file that is complete or as it was before; what is no regular file is written in place."""
+    with whole(path) as file:
+        out = io.TextIOWrapper(file, encoding="utf-8", errors="backslashreplace", write_through=True)
         write(summary, out)
-    os.replace(part, path)
+        out.flush()
+        out.detach()
 
 
 def run(job: Job, options: argparse.Namespace, runner: Runner, finish: Callable[[Table], None] | None = None) -> int:
@@ -99,7 +101,7 @@ def run(job: Job, options: argparse.Namespace, runner: Runner, finish: Callable[
 
 def run_files(options: argparse.Namespace) -> int:
     paths = options.files if options.command == "audit" else options.folders
-    with place_of(options, None if options.send else seen_among(paths), tell) as (runner, program):
+    with place_of(options, () if options.send else seen_among(paths), tell) as (runner, program):
         job: Job
         if options.command == "audit":
             job = Audit(program, paths, options.send)
@@ -126,7 +128,7 @@ def run_study(options: argparse.Namespace) -> int:
     if options.question is not None:
         sys.stdout.buffer.write(plan.text_of(options.question))
         return 0
-    with place_of(options, None, tell) as (runner, program):
+    with place_of(options, (), tell) as (runner, program):
         job = Study(plan, program, runner, options.batch)
 
         return run(job, options, runner, lambda table: finish_study(job, options, table))

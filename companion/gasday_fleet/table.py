@@ -39,8 +39,12 @@ def locked(file: IO[bytes], path: str) -> IO[bytes]:
 
 
 def check_output(path: str | None, is_resumed: bool) -> None:
-    """What was made before is not written over."""
-    if path is not None and os.path.exists(path) and not is_resumed:
+    """What was made before is not written over, and a run goes on with a regular file alone."""
+    if path is None or not os.path.exists(path):
+        return
+    if not os.path.isfile(path):
+        raise Fault(f"{path} is no regular file, and a table is kept in one: leave --output out, and the table is printed")
+    if not is_resumed:
         raise Fault(f"{path} is there already; --resume goes on with it")
 
 
@@ -48,7 +52,7 @@ class Table:
     """Without a path it stands in a file without a name, and is printed when the run ends."""
 
     def __init__(self, job: Job, path: str | None, is_resumed: bool) -> None:
-        self.job, self.path = job, path
+        self.job, self.path = job, path and os.path.realpath(path)
         self.places: dict[int, tuple[int, int]] = {}  # where the row of an item begins and ends
         self.size = 0
         if path is None:
@@ -72,11 +76,11 @@ class Table:
             items = {tuple(self.job.key(item).values()): item for item in range(len(self.job))}
             for row in rows:
                 self.keep(row, items)
-            os.replace(self.beside(), path)
+            os.replace(self.beside(), self.path or path)
         return self.file
 
     def keep(self, row: Row, items: dict[tuple[str, ...], int]) -> None:
-        if len(row) != len(self.job.columns):
+        if not self.job.is_sound(row):
             return
         cells = dict(zip(self.job.columns, row, strict=True))
         item = items.get(tuple(cells[name] for name in self.job.key(0)))

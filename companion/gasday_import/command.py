@@ -2,8 +2,6 @@
 
 import argparse
 import gc
-import os
-import shutil
 import sys
 from collections.abc import Iterable, Iterator, Sequence
 from pathlib import Path
@@ -24,6 +22,7 @@ from .reading import Sheet, Source, sheet_of
 from .rows import Row, written
 from .times import make_moments
 from .workbook import sources_in
+from .writing import whole
 
 DESCRIPTION = """\
 Makes a text that `gasday` reads out of a spreadsheet's CSV exports: of each FILE in turn, or of standard input.
@@ -79,26 +78,9 @@ def read(name: str) -> Source:
 
 
 def write(path: str, data: bytes) -> None:
-    """Writes a file that is whole or as it was before; into what is no plain file, or where nothing can stand beside it, as it
-    comes."""
-    place = os.path.realpath(path)
-    if os.path.exists(path) and not (os.path.isfile(path) and os.access(os.path.dirname(place), os.W_OK)):
-        Path(path).write_bytes(data)
-        return
-    part = f"{place}.part"
-    try:
-        with open(part, "wb") as file:
-            file.write(data)
-            file.flush()
-            os.fsync(file.fileno())
-        if os.path.exists(place):
-            shutil.copymode(place, part)
-        os.replace(part, place)
-    except OSError as error:
-        error.filename = path  # and not what stands in its place until then
-        raise
-    finally:
-        Path(part).unlink(missing_ok=True)
+    """Writes a file that is complete or as it was before."""
+    with whole(path) as file:
+        file.write(data)
 
 
 def options_of(words: Sequence[str] | None) -> argparse.Namespace:
