@@ -6,7 +6,7 @@ import tempfile
 import time
 from collections.abc import Sequence
 
-from .program import Answer, Program, Told, failure, no_answer, sha256_of_file
+from .program import Answer, Program, Told, failure, no_answer, sha256_of_file, unread
 
 # What stands beside an archive: its last changes, where they are not copied into it yet. With no more than its own head and
 # that of a page it holds none.
@@ -46,7 +46,7 @@ def audit_archive(program: Program, path: str) -> Answer:
         if sha256_of_file(path) != before:
             return failure("it changed while it was audited")
     except OSError as error:
-        return failure(f"it can't be read: {error.strerror}")
+        return unread(f"it can't be read: {error.strerror}")
     return {**verdict_of(told), "seconds": f"{seconds:.3f}", "sha256": before}
 
 

@@ -3,6 +3,7 @@
 No rule of the tariff is here: capacities, floors and ceilings are written into rows, and `gasday` says what comes of them.
 """
 
+from collections import Counter
 from collections.abc import Mapping, Sequence
 from dataclasses import dataclass
 
@@ -71,6 +72,14 @@ class Solved:
     def ceilings(self, scenario: Scenario) -> dict[int, int]:
         """The ceilings that a scenario changes, by the number of the line."""
         return {number: int(ceiling) for number, _, ceiling in scenario.bounds if ceiling}
+
+    def asked_by_class(self, scenario: Scenario) -> Mapping[int, int]:
+        """What was asked and confirmed of each class in a scenario: the ceilings of its lines."""
+        changed = self.ceilings(scenario)
+        asked: Counter[int] = Counter()
+        for number, line in enumerate(self.asked.lines, 1):
+            asked[line.class_number] += changed.get(number, line.ceiling)
+        return asked
 
 
 def solved(data: bytes, name: str, quantities: Sequence[int], totals: Sequence[int], binding: Sequence[str]) -> Solved:

@@ -5,13 +5,13 @@ Only what may run where is said here, and tasks are handed over as others end, s
 
 import contextlib
 import time
-from collections.abc import Callable, Iterator
+from collections.abc import Callable, Iterator, Sequence
 from dataclasses import dataclass
 from typing import Any
 
 from .clusters import SECONDS_TO_JOIN, imported
 from .job import Call, Shared, Task, Tasks
-from .program import Died
+from .program import Answer, Died
 from .running import Answered, Stopped
 from .workers import Killed, Workers, is_killed, reaching_the_scheduler, reason_of
 
@@ -28,6 +28,7 @@ class Given:
     retries: int
     workers: tuple[frozenset[str], ...]
     ended: int = 0
+    untried: tuple[str, ...] = ()  # where what a worker could not read is tried, the first of these now
 
     def is_stranded(self, there: set[str]) -> bool:
         return not all(there & workers for workers in self.workers)
@@ -41,8 +42,8 @@ class Cluster:
         self.shared: dict[Shared, tuple[Any, frozenset[str]]] = {}
         self.looked = self.peopled = time.monotonic()
 
-    def submit(self, call: Call, retries: int) -> Any:
-        arguments, where = list(map(self.future_of, call.arguments)), sorted(self.workers.threads)
+    def submit(self, call: Call, retries: int, only: tuple[str, ...] = ()) -> Any:
+        arguments, where = list(map(self.future_of, call.arguments)), only or sorted(self.workers.threads)
         with reaching_the_scheduler():
             return self.client.submit(call.function, *arguments, workers=where, retries=retries, pure=False)
 
@@ -54,11 +55,22 @@ class Cluster:
             self.shared[argument] = self.submit(argument.call, self.retries), frozenset(self.workers.threads)
         return self.shared[argument][0]
 
-    def give(self, call: Call, task: Task | None, retries: int, ended: int = 0) -> None:
-        future = self.submit(call, retries)
+    def give(self, call: Call, task: Task | None, retries: int, ended: int = 0, untried: tuple[str, ...] = ()) -> None:
+        future = self.submit(call, retries, untried[:1])
         needed = [self.shared[argument][1] for argument in call.arguments if isinstance(argument, Shared)]
-        self.given[future] = Given(task, call, retries, (frozenset(self.workers.threads), *needed), ended)
+        self.given[future] = Given(task, call, retries, (frozenset(untried[:1] or self.workers.threads), *needed), ended, untried)
         self.ended.add(future)
+
+    def is_given_elsewhere(self, given: Given, answers: Sequence[Answer]) -> bool:
+        """Gives what a worker could not read to each of the workers in turn. Whether there is one left."""
+        if not any(answer.get("unread") for answer in answers):
+            return False
+        there = sorted(self.workers.threads)
+        untried = tuple(address for address in given.untried[1:] if address in there) if given.untried else tuple(there)
+        if not untried or len(there) < 2:
+            return False
+        self.give(given.call, given.task, given.retries, given.ended, untried)
+        return True
 
     def look(self) -> None:
         """Looks which workers there are now."""
@@ -124,7 +136,7 @@ class Cluster:
             for given, answers, error in self.results():
                 if given.task and error:
                     yield tasks.failed(given.task, reason_of(error), is_killed(error))
-                elif given.task:
+                elif given.task and not self.is_given_elsewhere(given, answers):
                     yield tasks.answered(given.task, answers)
             yield []
 

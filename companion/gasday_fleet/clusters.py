@@ -5,6 +5,7 @@ import os
 import signal
 import sys
 import tempfile
+import urllib.request
 import warnings
 import zipfile
 from collections.abc import Iterator
@@ -19,9 +20,34 @@ from .worker import CODE
 COMPANION = Path(__file__).resolve().parents[1]
 PARTS = ("certificate.py", "gasday_report/*.py", "gasday_fleet/*.py")
 SECONDS_TO_JOIN = 60  # until there is a worker
+SECONDS_TO_ANSWER = 3  # for the dashboard
 LOCAL = "127.0.0.1"
 # Dask gives up a worker that isn't there so long after it ended, though it may have come back and just ended once more.
 A_DAY = "1 day"
+
+
+LOGGING = ("distributed", "tornado", "asyncio", "dask", "bokeh")
+
+
+def silence() -> None:
+    """Silences what Dask logs, which is for people who run a cluster. It gives levels and handlers of their own to loggers
+    below these, so that each has to be silenced by itself."""
+    there = [name for name in logging.root.manager.loggerDict if name.split(".")[0] in LOGGING]
+    for name in (*LOGGING, *there):
+        logger = logging.getLogger(name)
+        logger.handlers = [logging.NullHandler()]
+        logger.propagate = False
+        logger.setLevel(logging.CRITICAL + 1)
+
+
+def dashboard_of(client: Any) -> str:
+    """Where a cluster's dashboard is; nothing where none is there, as where bokeh is not installed."""
+    link = str(getattr(client, "dashboard_link", "") or "")
+    try:
+        with urllib.request.build_opener(urllib.request.ProxyHandler({})).open(link, timeout=SECONDS_TO_ANSWER) as page:
+            return link if page.status == 200 else ""
+    except (OSError, ValueError):
+        return ""
 
 
 def imported() -> Any:
@@ -31,9 +57,7 @@ def imported() -> Any:
     except ImportError:
         raise Fault(f"{sys.executable} finds no Dask: `apt-get install python3-distributed` installs it for Debian's own Python,"
                     " and --serial needs none") from None
-    # What it logs is for those who run it; what users have to know is told by this program.
-    for name in ("distributed", "tornado", "asyncio"):
-        logging.getLogger(name).setLevel(logging.CRITICAL)
+    silence()
     warnings.filterwarnings("ignore", module="distributed")
     return distributed
 

@@ -10,7 +10,7 @@ from pathlib import Path
 from typing import NamedTuple
 
 from .postings import Posting, Unreadable, books_in, first_other, other_postings, postings_in, shown
-from .program import Answer, Program, Told, failure, no_answer, sha256_of
+from .program import Answer, Program, Told, failure, no_answer, sha256_of, unread
 
 ARCHIVE = "archive.db"
 
@@ -140,4 +140,4 @@ def run_day_in(program: Program, folder: str, name: str, is_kept: bool) -> list[
     try:
         return run_sent(program, read_day(folder, name, is_kept))
     except Unreadable as error:
-        return [failure(str(error))]
+        return [unread(str(error))]

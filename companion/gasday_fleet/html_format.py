@@ -18,6 +18,8 @@ from .summary import CHECKS, PERCENTS, ScenarioLine, Summary
 NOTES = (
     "A class or a line loses what it has less than in the base; a loss below zero is a gain. Scenarios without a schedule count"
     " in no loss.",
+    "What is cut of a class is what was asked and confirmed of it in the scenario, which are the ceilings of its lines, less what"
+    " is scheduled. So a lower ceiling is a loss and no cut.",
     "A line is short where it is below the ceiling that the scenario gives it, and an element is full where it carries as much as"
     " the capacity that the scenario gives it: one that is out, with a capacity of 0, is full of nothing.",
     "An element binds where its price is above zero, so that a dekatherm more there would make a better schedule; or, where no"
@@ -26,8 +28,9 @@ NOTES = (
     "The percentile of 95 is the least loss that 95 percent of the scenarios with a schedule don't lose more than.",
 )
 
-SCENARIO_NOTE = ("By class: what it loses against the base, and below zero what it gains. Then how many lines are short, and how"
-                 " many elements are full and bind; and which bind that don't in the base, or lead out of a cut.")
+SCENARIO_NOTE = ("By class: what it loses against the base, and below zero what it gains; and what is cut of it. Then how many"
+                 " lines are short, and how many elements are full and bind; and which bind that don't in the base, or lead out"
+                 " of a cut.")
 MOST_NAMED = 4
 
 
@@ -39,8 +42,10 @@ def verdicts_html(summary: Summary) -> str:
     for verdict, words in (("unsound", "did not pass, so nothing of them is shown"), ("failed", "could not be run")):
         if count := summary.verdicts[verdict]:
             boxes.append(verdict_html(Verdict(counted(count, "scenario"), False, words)))
-    program = (f'<p class="note">By {escape(summary.program.version)}, SHA-256 <code>{summary.program.sha256}</code>,'
-               " wherever it ran.</p>")
+    own = summary.program
+    program = "".join(
+        f'<p class="note">{counted(count, "scenario")} by {escape(own.version) if sha256 == own.sha256 else "another program"},'
+        f" SHA-256 <code>{escape(sha256)}</code>.</p>" for sha256, count in sorted(summary.programs.items()))
     return section("What was checked", f'<div class="verdicts">{"".join(boxes)}</div>', inputs_html(summary.inputs), program)
 
 
@@ -53,12 +58,15 @@ def counts_html(summary: Summary) -> str:
 
 
 def classes_html(summary: Summary) -> str:
-    heads = "".join(f"<th>{escape(head)}</th>" for head in ("class", "in the base", *(f"{p} %" for p in PERCENTS[:-1]), "most"))
+    names = ("class", "in the base", "", *(f"{p} %" for p in PERCENTS[:-1]), "most", "impossible scenarios")
+    heads = "".join(f"<th>{escape(head)}</th>" for head in names)
+    impossible = grouped(summary.verdicts["impossible"])
     rows = ""
     for fact in summary.classes:
-        losses = [fact.percentile(percent) for percent in PERCENTS]
-        cells = [f"class {fact.class_number}", grouped(fact.total), *("" if loss is None else grouped(loss) for loss in losses)]
-        rows += f"<tr>{''.join(f'<td>{cell}</td>' for cell in cells)}</tr>"
+        for name, of in (("loss", fact.percentile), ("cut", fact.cut_percentile)):
+            found = ("" if (value := of(percent)) is None else grouped(value) for percent in PERCENTS)
+            cells = [f"class {fact.class_number}", grouped(fact.total), name, *found, impossible]
+            rows += f"<tr>{''.join(f'<td>{cell}</td>' for cell in cells)}</tr>"
     drawn = "".join(map(histogram_of, summary.classes))
     return section("What each class loses", counts_html(summary),
                    f'<div class="scroll"><table class="classes"><tr>{heads}</tr>{rows}</table></div>',
@@ -73,7 +81,8 @@ def picture_html(summary: Summary) -> str:
 
 
 def scenario_cells(fact: ScenarioLine, classes: list[int]) -> list[Cell]:
-    losses: list[Cell] = [fact.class_losses[c - 1] if fact.class_losses else None for c in classes]
+    amounts = (fact.class_losses, fact.class_cuts)
+    losses: list[Cell] = [of[c - 1] if of else None for of in amounts for c in classes]
     counts: list[Cell] = [fact.full, fact.binds] if fact.verdict == "best" else [None, None]
     more = len(fact.newly) - MOST_NAMED
     named = " ".join(fact.newly[:MOST_NAMED]) + (f" and {more} more" if more > 0 else "")
@@ -85,9 +94,9 @@ def scenario_table(summary: Summary) -> Table:
     classes = [fact.class_number for fact in summary.classes]
     at = 1 + len(summary.labels)
     columns = [column("scenario", name=True), *map(column, summary.labels), column("verdict"),
-               *numbers(*(f"class {c}" for c in classes), "excess", "short", "full", "binding"),
+               *numbers(*(f"class {c}" for c in classes), *(f"cut {c}" for c in classes), "excess", "short", "full", "binding"),
                column("newly binding", name=True)]
-    marks: list[Mark] = [mark("impossible", at + 1 + len(classes), "impossible")]
+    marks: list[Mark] = [mark("impossible", at + 1 + 2 * len(classes), "impossible")]
     return {"id": "scenarios", "columns": columns, "choice": at, "marks": marks,
             "rows": [scenario_cells(fact, classes) for fact in summary.scenarios]}
 

@@ -1,14 +1,17 @@
 """What a run is asked for: a row of its table for each item, which workers answer by calls."""
 
 import abc
+import hashlib
 from collections import deque
 from collections.abc import Callable, Iterable, Mapping, Sequence
 from dataclasses import dataclass, field
 from typing import Any
 
-from .program import Answer, failure
+from .program import Answer, Program, failure
 
 Row = list[str]
+# The last columns of each table: the program that made a row, and the sum of the row before it.
+MADE = ("program_sha256", "row_sha256")
 
 
 @dataclass(frozen=True)
@@ -35,11 +38,18 @@ class Words:
     bad: tuple[str, ...]
 
 
+def summed(cells: Sequence[str]) -> Row:
+    """A row with its last cell, the SHA-256 of all before it."""
+    data = "".join(f"{len(cell)}:{cell}," for cell in cells)
+    return [*cells, hashlib.sha256(data.encode("utf-8", "surrogateescape")).hexdigest()]
+
+
 class Job(abc.ABC):
     """The items with their names, by which they stand in the table, and the calls that answer them."""
 
     words: Words
-    columns: Sequence[str]
+    columns: Sequence[str]  # the last ones of which are MADE
+    program: Program
     batch = 1  # how many items a task has
     is_timed = True  # whether the table tells of seconds, in which no two runs are the same
 
@@ -63,8 +73,12 @@ class Job(abc.ABC):
         return "/".join(self.key(item).values())
 
     def row(self, item: int, answer: Answer) -> Row:
-        cells = {**self.key(item), **answer, **({} if self.is_timed else {"seconds": ""})}
-        return [cells.get(column, "") for column in self.columns]
+        cells = {**self.key(item), **answer, "program_sha256": self.program.sha256, **({} if self.is_timed else {"seconds": ""})}
+        return summed([cells.get(column, "") for column in self.columns[:-1]])
+
+    def is_sound(self, row: Sequence[str]) -> bool:
+        """Whether a row is as a run by the same program wrote it: nobody edited it."""
+        return len(row) == len(self.columns) and summed(row[:-1]) == list(row) and row[-2] == self.program.sha256
 
 
 @dataclass(frozen=True)

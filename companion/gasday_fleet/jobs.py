@@ -6,14 +6,15 @@ from pathlib import Path
 
 from .archives import audit_archives, audit_sent, log_of
 from .gas_days import is_told, read_day, run_day_in, run_sent, sums_of, surplus_of
-from .job import Call, Job, Words
+from .job import MADE, Call, Job, Words
 from .postings import Unreadable
 from .program import Answer, Program, failure, sha256_of_file
 
 
-def seen_among(paths: Iterable[str]) -> str | None:
-    """The first of these that stands here, which workers have to see as well."""
-    return next((os.path.abspath(path) for path in paths if os.path.exists(path)), None)
+def seen_among(paths: Iterable[str]) -> tuple[str, ...]:
+    """The folders of these paths, as far as they are here, which workers have to see as well."""
+    there = (os.path.abspath(path) for path in paths if os.path.exists(path))
+    return tuple(dict.fromkeys(path if os.path.isdir(path) else os.path.dirname(path) for path in there))
 
 
 def answered(answer: Answer) -> list[Answer]:
@@ -23,7 +24,7 @@ def answered(answer: Answer) -> list[Answer]:
 
 class Audit(Job):
     words = Words("archive", "sound", ("unsound",))
-    columns = ("file", "postings", "verdict", "told", "seconds", "sha256")
+    columns = ("file", "postings", "verdict", "told", "seconds", "sha256", *MADE)
 
     def __init__(self, program: Program, files: Sequence[str], is_sent: bool) -> None:
         self.program, self.is_sent = program, is_sent
@@ -56,7 +57,7 @@ class Days(Job):
     """The gas days of folders, each with a text, what was told and its postings; and books that an archive has beside them."""
 
     words = Words("gas day", "same", ("differs",))
-    columns = ("folder", "day", "verdict", "told", "postings", "seconds", "text_sha256", "told_sha256", "kept_sha256")
+    columns = ("folder", "day", "verdict", "told", "postings", "seconds", "text_sha256", "told_sha256", "kept_sha256", *MADE)
 
     def __init__(self, program: Program, folders: Sequence[str], is_kept: bool, is_sent: bool) -> None:
         self.program, self.is_kept, self.is_sent = program, is_kept, is_sent
@@ -94,7 +95,7 @@ class Days(Job):
             sums = surplus or sums_of(read_day(*self.days[item], self.is_kept))
         except Unreadable:
             return False
-        return all(sums.get(name, "") == row[name] for name in self.columns if name.endswith("_sha256"))
+        return all(sums.get(name, "") == row[name] for name in self.columns if name.endswith("_sha256") and name not in MADE)
 
 
 def days_in(folder: str) -> list[str]:

@@ -13,14 +13,16 @@ def scenario_of(fact: ScenarioFact, labels: tuple[str, ...]) -> Names:
     return {
         "scenario": fact.scenario.name, "labels": dict(zip(labels, fact.scenario.labels, strict=True)), "verdict": fact.verdict,
         "told": fact.told or None, "sha256": fact.sha256 or None, "excess": fact.excess, "totals": fact.totals,
-        "class_losses": fact.class_losses, "short": fact.short, "losses": {str(line): loss for line, loss in fact.losses.items()},
+        "class_losses": fact.class_losses, "class_cuts": fact.class_cuts, "program_sha256": fact.program, "short": fact.short,
+        "losses": {str(line): loss for line, loss in fact.losses.items()},
         "full": fact.full, "binds": fact.binds, "inside": fact.inside,
     }
 
 
-def class_of(fact: ClassFact) -> Names:
+def class_of(fact: ClassFact, impossible: int) -> Names:
     return {"class": fact.class_number, "total": fact.total,
-            "losses": {str(percent): fact.percentile(percent) for percent in PERCENTS}}
+            "losses": {str(percent): fact.percentile(percent) for percent in PERCENTS},
+            "cuts": {str(percent): fact.cut_percentile(percent) for percent in PERCENTS}, "impossible": impossible}
 
 
 def line_of(fact: LineFact) -> Names:
@@ -41,7 +43,9 @@ def names_of(summary: Summary) -> Names:
         "program": {"version": summary.program.version, "sha256": summary.program.sha256},
         "inputs": [{"role": file.role, "path": file.path, "sha256": file.digest()} for file in summary.inputs],
         "question": {"book": summary.book, "cycle": int(summary.cycle)}, "verdicts": dict(sorted(summary.verdicts.items())),
-        "classes": [class_of(fact) for fact in summary.classes], "lines": [line_of(fact) for fact in summary.lines],
+        "programs": [{"sha256": sha256, "scenarios": count} for sha256, count in sorted(summary.programs.items())],
+        "classes": [class_of(fact, summary.verdicts["impossible"]) for fact in summary.classes],
+        "lines": [line_of(fact) for fact in summary.lines],
         "elements": [element_of(fact) for fact in summary.elements],
     }
 

@@ -2,14 +2,14 @@
 
 import argparse
 import os
-from collections.abc import Callable, Iterator
+from collections.abc import Callable, Iterator, Sequence
 from contextlib import contextmanager
 
 from gasday_report.texts import Fault
 from gasday_report.verdicts import program_at
 
 from .cluster import Cluster
-from .clusters import cluster_at, own_cluster, quiet
+from .clusters import cluster_at, dashboard_of, own_cluster, quiet
 from .program import Program
 from .running import Runner, Serial
 from .worker import Found, found
@@ -20,7 +20,7 @@ Place = tuple[Runner, Program]
 
 def program_here(name: str | None) -> Found:
     """The program that is named, else the built one, else the one on the PATH."""
-    one = found(os.path.abspath(program_at(name)), None)
+    one = found(os.path.abspath(program_at(name)), ())
     if one.fault:
         raise Fault(one.fault)
     return one
@@ -31,8 +31,8 @@ def program_of(options: argparse.Namespace, one: Found, name: str) -> Program:
 
 
 @contextmanager
-def place_of(options: argparse.Namespace, seen: str | None, tell: Callable[[str], None]) -> Iterator[Place]:
-    """What runs tasks, by the options; workers have to see a file where one is told of."""
+def place_of(options: argparse.Namespace, seen: Sequence[str], tell: Callable[[str], None]) -> Iterator[Place]:
+    """What runs tasks, by the options; workers have to see these folders."""
     if options.serial:
         own = program_here(options.gasday)
         yield Serial(), program_of(options, own, own.path)
@@ -46,12 +46,12 @@ def own_place(options: argparse.Namespace, tell: Callable[[str], None]) -> Itera
     """A cluster on this machine, whose workers run the program that stands here."""
     own = program_here(options.gasday)
     with (own_cluster(options.workers, options.retries) as client,
-          workers_of(client, options, own, own.path, None, tell) as place):
+          workers_of(client, options, own, own.path, (), tell) as place):
         yield place
 
 
 @contextmanager
-def running_place(options: argparse.Namespace, seen: str | None, tell: Callable[[str], None]) -> Iterator[Place]:
+def running_place(options: argparse.Namespace, seen: Sequence[str], tell: Callable[[str], None]) -> Iterator[Place]:
     """A running cluster. Where there is no program here, its workers have to agree on theirs."""
     try:
         own = program_here(options.gasday)
@@ -63,9 +63,11 @@ def running_place(options: argparse.Namespace, seen: str | None, tell: Callable[
 
 
 @contextmanager
-def workers_of(client: object, options: argparse.Namespace, own: Found | None, name: str, seen: str | None,
+def workers_of(client: object, options: argparse.Namespace, own: Found | None, name: str, seen: Sequence[str],
                tell: Callable[[str], None]) -> Iterator[Place]:
-    tell(f"Dask's dashboard is {getattr(client, 'dashboard_link', 'nowhere')}")
+    link = dashboard_of(client)
+    if link:
+        tell(f"Dask's dashboard is {link}")
     workers = Workers(client, name, seen, tell)
     one = workers.begin(own)
     cluster = Cluster(client, workers, options.retries)

@@ -42,6 +42,11 @@ def failure(why: str) -> Answer:
     return {"verdict": FAILED, "told": why}
 
 
+def unread(why: str) -> Answer:
+    """The answer of a worker that can't read a file, which another worker may see."""
+    return {**failure(why), "unread": "yes"}
+
+
 def sha256_of(data: bytes) -> str:
     return hashlib.sha256(data).hexdigest()
 

@@ -1,4 +1,4 @@
-"""The line on a terminal that says how far a run is."""
+"""The line on a terminal that says how far a run is; elsewhere a line each minute."""
 
 import sys
 import time
@@ -7,6 +7,7 @@ from dataclasses import dataclass, field
 from typing import TextIO
 
 SECONDS = 0.2  # between two changes of the line
+SECONDS_OF_A_LINE = 60.0  # between two lines where there is no terminal
 
 
 def spoken(seconds: float) -> str:
@@ -19,7 +20,7 @@ def spoken(seconds: float) -> str:
 
 @dataclass
 class Progress:
-    """Counts what is done, and shows it where standard error is a terminal."""
+    """Counts what is done, and shows it: where standard error is no terminal by a line each minute."""
 
     total: int
     begun_with: int = 0  # what stood in the table already
@@ -30,7 +31,8 @@ class Progress:
     shown: float = 0.0
 
     def __post_init__(self) -> None:
-        self.begun, self.done = self.clock(), self.begun_with
+        self.begun = self.shown = self.clock()
+        self.done = self.begun_with
         self.is_shown = self.stream.isatty()
 
     def words(self) -> str:
@@ -46,9 +48,9 @@ class Progress:
         self.show()
 
     def show(self) -> None:
-        if self.is_shown and self.clock() - self.shown >= SECONDS:
+        if self.clock() - self.shown >= (SECONDS if self.is_shown else SECONDS_OF_A_LINE):
             self.shown = self.clock()
-            self.stream.write(f"\r\x1b[K{self.words()}")
+            self.stream.write(f"\r\x1b[K{self.words()}" if self.is_shown else f"gasday-fleet: {self.words()}\n")
             self.stream.flush()
 
     def end(self) -> None:

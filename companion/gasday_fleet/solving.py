@@ -94,12 +94,14 @@ def schedule_answer(solved: Solved, scenario: Scenario, answer: Checked) -> Answ
     capacities, ceilings = solved.capacities(scenario), solved.ceilings(scenario)
     loads = solved.asked.loads(quantities)
     full = [name for name, capacity in capacities.items() if loads[name] == capacity]
+    asked = solved.asked_by_class(scenario)
     lines = enumerate(zip(solved.asked.lines, quantities, strict=True), 1)
     short = sum(quantity < ceilings.get(number, line.ceiling) for number, (line, quantity) in lines)
     priced = set(answer.priced())
     return {
         "verdict": "best", **{f"total_{c}": str(total) for c, total in enumerate(totals, 1)},
         **{f"loss_{c}": str(base - total) for c, (base, total) in enumerate(zip(solved.totals, totals, strict=True), 1)},
+        **{f"cut_{c}": str(asked.get(c, 0) - total) for c, total in enumerate(totals, 1)},
         "short": str(short), "losses": counted_losses(quantities, solved.quantities), "full": " ".join(full),
         "binds": " ".join(name for name in capacities if name in priced),
     }

@@ -6,7 +6,7 @@ from certificate import CLASSES
 from gasday_report.texts import Fault, Input
 
 from .base import Base, Solved, solved
-from .job import Call, Job, Shared, Words
+from .job import MADE, Call, Job, Shared, Words
 from .program import Program, sha256_of
 from .running import Runner
 from .scenarios import Scenarios, read_scenarios
@@ -15,7 +15,8 @@ from .solving import Checked, solve_question, solve_scenarios
 CLASS_NUMBERS = range(1, CLASSES + 1)
 # Behind the labels of the scenarios.
 MEASURES = ("verdict", "told", "sha256", "base_sha256", "excess", *(f"total_{c}" for c in CLASS_NUMBERS),
-            *(f"loss_{c}" for c in CLASS_NUMBERS), "short", "losses", "full", "binds", "inside")
+            *(f"loss_{c}" for c in CLASS_NUMBERS), *(f"cut_{c}" for c in CLASS_NUMBERS), "short", "losses", "full", "binds",
+            "inside", *MADE)
 
 
 class Impossible(Exception):

@@ -24,11 +24,13 @@ class ScenarioFact:
     excess: int | None
     totals: list[int]
     class_losses: list[int]
+    class_cuts: list[int]
     short: int | None
     losses: dict[int, int]  # of each line that has less, or below zero more, than in the base
     full: list[str]
     binds: list[str]
     inside: list[str]
+    program: str  # the SHA-256 of the one that made the row
 
 
 @dataclass
@@ -40,23 +42,34 @@ class ScenarioLine:
     told: str
     excess: int | None
     class_losses: list[int]
+    class_cuts: list[int]
     short: int | None
     full: int
     binds: int
     newly: list[str]
 
 
+def nearest(rising: Sequence[int], percent: int) -> int | None:
+    """The percentile of numbers by the nearest rank."""
+    return rising[max(0, -(-percent * len(rising) // 100) - 1)] if rising else None
+
+
 @dataclass
 class ClassFact:
-    """What a class loses over all scenarios that have a schedule."""
+    """What a class loses over all scenarios that have a schedule, and what is cut of it."""
 
     class_number: int
     total: int  # in the base
     losses: list[int]  # rising
+    cuts: list[int] = field(default_factory=list)  # rising
 
     def percentile(self, percent: int) -> int | None:
         """The least loss that so many percent of the scenarios don't lose more than."""
-        return self.losses[max(0, -(-percent * len(self.losses) // 100) - 1)] if self.losses else None
+        return nearest(self.losses, percent)
+
+    def cut_percentile(self, percent: int) -> int | None:
+        """The least cut that so many percent of the scenarios don't exceed."""
+        return nearest(self.cuts, percent)
 
 
 @dataclass
@@ -114,6 +127,7 @@ class Summary:
     facts: Callable[[], Iterator[ScenarioFact]]  # the scenarios, each time they are asked for
     scenarios: list[ScenarioLine] = field(default_factory=list)
     verdicts: Counter[str] = field(default_factory=Counter)
+    programs: Counter[str] = field(default_factory=Counter)  # how many scenarios each made, by its SHA-256
 
     def __post_init__(self) -> None:
         self.book, self.cycle = next(row for row in self.solved.base.head if row[0] == "question")[1:3]
@@ -125,11 +139,13 @@ class Summary:
             self.add(fact, named)
         for one in self.classes:
             one.losses.sort()
+            one.cuts.sort()
         for line in self.lines:
             line.short += line.is_short() * self.verdicts["best"]
 
     def add(self, fact: ScenarioFact, named: Mapping[str, ElementFact]) -> None:
         self.verdicts[fact.verdict] += 1
+        self.programs[fact.program] += 1
         for name in fact.full:
             named[name].full += 1
         for name in fact.binds:
@@ -137,14 +153,15 @@ class Summary:
         if fact.verdict == "best":
             for one in self.classes:
                 one.losses.append(fact.class_losses[one.class_number - 1])
+                one.cuts.append(fact.class_cuts[one.class_number - 1])
             ceilings = self.solved.ceilings(fact.scenario)
             for number in fact.losses.keys() | ceilings.keys():
                 line = self.lines[number - 1]
                 line.add(fact.losses.get(number, 0), ceilings.get(number, line.ceiling))
         usual = self.solved.binding if fact.verdict == "best" else ()
         self.scenarios.append(ScenarioLine(
-            fact.scenario, fact.verdict, fact.told, fact.excess, fact.class_losses, fact.short, len(fact.full), len(fact.binds),
-            [name for name in fact.binds if name not in usual]))
+            fact.scenario, fact.verdict, fact.told, fact.excess, fact.class_losses, fact.class_cuts, fact.short, len(fact.full),
+            len(fact.binds), [name for name in fact.binds if name not in usual]))
 
 
 def numbers_in(row: Mapping[str, str], name: str) -> list[int]:
@@ -161,5 +178,6 @@ def losses_in(cell: str) -> dict[int, int]:
 def scenario_fact(scenario: Scenario, row: Mapping[str, str]) -> ScenarioFact:
     return ScenarioFact(
         scenario, row["verdict"], row["told"], row["sha256"], int(row["excess"]) if row["excess"] else None,
-        numbers_in(row, "total"), numbers_in(row, "loss"), int(row["short"]) if row["short"] else None,
-        losses_in(row["losses"]), row["full"].split(), row["binds"].split(), row["inside"].split())
+        numbers_in(row, "total"), numbers_in(row, "loss"), numbers_in(row, "cut"), int(row["short"]) if row["short"] else None,
+        losses_in(row["losses"]), row["full"].split(), row["binds"].split(), row["inside"].split(),
+        row["program_sha256"])

@@ -1,10 +1,11 @@
-"""What a worker is asked before its first task: which program and which code it has, and whether it sees the files."""
+"""What a worker is asked before its first task: which program and which code it has, and whether it sees the folders."""
 
 import hashlib
 import inspect
 import os
 import shutil
 import sys
+from collections.abc import Sequence
 from typing import NamedTuple
 
 import certificate
@@ -28,19 +29,26 @@ class Found(NamedTuple):
     code: str = CODE
     sees: bool = True
     fault: str = ""
+    missing: str = ""  # the first folder that it doesn't see
 
 
-def found(name: str, seen: str | None) -> Found:
-    """What is found where this runs: of the program with this name, and of a file that is to be seen."""
-    sees, path = seen is None or os.path.exists(seen), shutil.which(name)
+def found(name: str, seen: Sequence[str]) -> Found:
+    """What is found where this runs: of the program with this name, and of each folder that is to be seen."""
+    missing = next((folder for folder in seen if not os.access(folder, os.R_OK | os.X_OK)), "")
+    sees = not seen or any(os.access(folder, os.R_OK | os.X_OK) for folder in seen)
+    return found_program(name)._replace(sees=sees, missing=missing)
+
+
+def found_program(name: str) -> Found:
+    path = shutil.which(name)
     if path is None:
-        return Found(sees=sees, fault=f"there is no program {name}")
+        return Found(fault=f"there is no program {name}")
     try:
         summed, told = sha256_of_program(path), called([path, "--version"], b"", SECONDS)
     except OSError as error:
-        return Found(sees=sees, fault=f"{path} can't be read: {error.strerror}")
+        return Found(fault=f"{path} can't be read: {error.strerror}")
     except Died as death:
-        return Found(sees=sees, fault=str(death))
+        return Found(fault=str(death))
     if told.status or not told.first().startswith("gasday"):
-        return Found(sees=sees, fault=f"{path} is no gasday: it tells of no version")
-    return Found(path, told.first(), summed, sees=sees)
+        return Found(fault=f"{path} is no gasday: it tells of no version")
+    return Found(path, told.first(), summed)

@@ -1,6 +1,6 @@
 """The workers of a cluster, and on which of them tasks may run: those with the very program and code of the run."""
 
-from collections.abc import Callable, Iterator, Mapping
+from collections.abc import Callable, Iterator, Mapping, Sequence
 from contextlib import contextmanager
 from typing import Any
 
@@ -50,7 +50,7 @@ def reaching_the_scheduler() -> Iterator[None]:
 
 
 class Workers:
-    def __init__(self, client: Any, name: str, seen: str | None, tell: Tell) -> None:
+    def __init__(self, client: Any, name: str, seen: Sequence[str], tell: Tell) -> None:
         self.client, self.name, self.seen, self.tell = client, name, seen, tell
         self.faults: dict[str, str] = {}  # of each worker that was asked, why nothing may run on it
         self.threads: dict[str, int] = {}  # of each worker that may run tasks
@@ -92,6 +92,8 @@ class Workers:
             fault = self.faults[address] = self.fault_of(one)
             if fault:
                 self.tell(f"nothing runs on the worker {address}: {fault}")
+            elif one.missing:
+                self.tell(f"the worker {address} doesn't see {one.missing}: what it can't read is tried on others")
         self.threads = {address: count for address, count in threads.items() if self.faults.get(address) == ""}
 
     def fault_of(self, one: Found) -> str:
@@ -101,4 +103,4 @@ class Workers:
             return f"{one.path} is another program: {one.version}, SHA-256 {one.sha256}"
         if one.code != CODE:
             return "it has other code of gasday-fleet loaded, and has to be started again"
-        return "" if one.sees else f"it doesn't see {self.seen}; --send sends files"
+        return "" if one.sees else f"it doesn't see {one.missing or self.seen}; --send sends files"

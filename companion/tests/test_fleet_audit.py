@@ -9,7 +9,7 @@ import unittest
 
 from fleet_helpers import FleetTest, cells_of, rows_of, wait_until
 
-COLUMNS = "file,postings,verdict,told,seconds,sha256\n"
+COLUMNS = "file,postings,verdict,told,seconds,sha256,program_sha256,row_sha256\n"
 
 
 class Verdicts(FleetTest):

@@ -5,14 +5,19 @@ import os
 import shutil
 import signal
 import subprocess
+import tempfile
 import unittest
 from pathlib import Path
 from unittest import mock
 
 from fleet_helpers import NAME, NO_DASK, QUESTION, FleetTest, cells_of, dask_python, rows_of, wait_until
 
+from gasday_fleet.cluster import Cluster, Given
+from gasday_fleet.job import Call, Task
+from gasday_fleet.jobs import seen_among
+from gasday_fleet.program import failure, unread
 from gasday_fleet.running import Stopped
-from gasday_fleet.worker import Found
+from gasday_fleet.worker import Found, found
 from gasday_fleet.workers import Workers
 from gasday_report.texts import Fault
 
@@ -40,7 +45,10 @@ class OwnCluster(DaskTest):
         one, other = (run("audit", *names, "--untimed", "--timeout", "2", *more) for run, more in (
             (self.local, ("--retries", "1", "--output", "table.csv")), (self.serial, ())))
         self.assertEqual((one[0], one[2]), ("", 2))
-        self.assertIn("gasday-fleet: Dask's dashboard is http://127.0.0.1:", one[1])
+        has_pages = subprocess.run([dask_python() or "", "-c", "import bokeh"], capture_output=True).returncode == 0
+        self.assertEqual("gasday-fleet: Dask's dashboard is http://127.0.0.1:" in one[1], has_pages, one[1])
+        for line in one[1].splitlines():
+            self.assertRegex(line, "^gasday-fleet: ")
         self.assertIn("002.db: failed: gasday audit was ended by signal 9\n", one[1])
         self.assertIn("004.db: failed: gasday audit was not ready after 2 seconds\n", one[1])
         self.assertIn("12 archives: 8 sound, 1 unsound, 3 failed\n", one[1])
@@ -243,6 +251,40 @@ class Named(unittest.TestCase):
             "b: it doesn't see /a/file; --send sends files",
             "c: it has other code of gasday-fleet loaded, and has to be started again",
             "d: /bin/gasday is another program: gasday 2, SHA-256 bb", "e: there is no program gasday", "g: TypeError: odd")])
+
+    def test_a_worker_that_sees_some_folders(self) -> None:
+        own = Found("/bin/gasday", "gasday 1", "aa")
+        workers, told = self.workers(a=own._replace(missing="/some/folder"))
+        workers.begin(own)
+        self.assertEqual((workers.threads, told), ({"a": 2}, [
+            "the worker a doesn't see /some/folder: what it can't read is tried on others"]))
+
+    def test_each_folder_is_looked_for(self) -> None:
+        with tempfile.TemporaryDirectory() as folder:
+            there, not_there = str(Path(folder)), str(Path(folder, "nothing"))
+            for seen, sees, missing in (((), True, ""), ((there,), True, ""), ((there, not_there), True, not_there),
+                                        ((not_there,), False, not_there)):
+                one = found("no-such-program", seen)
+                self.assertEqual((one.sees, one.missing), (sees, missing))
+            self.assertEqual(seen_among([there, f"{there}/a.db", __file__, not_there]), (there, str(Path(__file__).parent)))
+
+    def test_what_one_cannot_read_is_tried_on_each_other(self) -> None:
+        own = Found("/bin/gasday", "gasday 1", "aa")
+        workers, _ = self.workers(a=own, b=own, c=own)
+        workers.begin(own)
+        client = mock.Mock()
+        client.submit.side_effect = lambda *_, **__: mock.Mock()
+        cluster = Cluster.__new__(Cluster)
+        cluster.client, cluster.workers, cluster.retries = client, workers, 2
+        cluster.ended, cluster.given, cluster.shared = mock.Mock(), {}, {}
+        given = Given(Task((0,), Call(len, ("x",))), Call(len, ("x",)), 2, ())
+        where = []
+        while cluster.is_given_elsewhere(given, [unread("it can't be read")]):
+            (future, given), = cluster.given.items()
+            cluster.given.clear()
+            where.append(client.submit.call_args.kwargs["workers"])
+        self.assertEqual(where, [("a",), ("b",), ("c",)])
+        self.assertFalse(cluster.is_given_elsewhere(given, [failure("it died")]))
 
     def test_none_is_left(self) -> None:
         workers, _ = self.workers(a=Found(fault="there is no program gasday"))

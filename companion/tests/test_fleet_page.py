@@ -38,10 +38,12 @@ class Study(FleetTest):
         self.assertEqual((told["study"], told["version"], told["verdicts"]), ("gasday-fleet", 1, {"best": 105, "impossible": 5}))
         self.assertEqual(told["question"], {"book": "DEMO", "cycle": 1})
         first, fourth = told["classes"]
-        # Line 1 loses 60 down to 1 in 60 scenarios, and nothing in 45.
-        self.assertEqual(first, {"class": 1, "total": 80,
-                                 "losses": {"50": 8, "75": 34, "90": 50, "95": 55, "99": 59, "100": 60}})
+        # Line 1 loses 60 down to 1 in 60 scenarios, and nothing in 45; in the base it has all that it asks for.
+        losses = {"50": 8, "75": 34, "90": 50, "95": 55, "99": 59, "100": 60}
+        self.assertEqual(first, {"class": 1, "total": 80, "losses": losses, "cuts": losses, "impossible": 5})
         self.assertEqual((fourth["losses"]["50"], fourth["losses"]["100"]), (20, 20))
+        # Line 2 asks for 50 and has 20 in the base.
+        self.assertEqual((fourth["cuts"]["50"], fourth["cuts"]["100"], fourth["impossible"]), (50, 50, 5))
         one, two = told["lines"]
         self.assertEqual([one[name] for name in ("short", "loses", "lost", "greatest")], [60, 60, 1830, 60])
         self.assertEqual([two[name] for name in ("short", "loses", "greatest")], [105, 80, 20])
@@ -79,10 +81,10 @@ class Study(FleetTest):
         page, _, _ = self.made()
         tables = Tables(page).rows
         self.assertEqual(tables["scenarios"][0], [
-            "scenario", "label", "verdict", "class 1", "class 4", "excess", "short", "full", "binding",
+            "scenario", "label", "verdict", "class 1", "class 4", "cut 1", "cut 4", "excess", "short", "full", "binding",
             "newly binding"])
-        self.assertEqual(tables["scenarios"][1], ["s15", "winter", "impossible", "", "", "5", "", "", "", "S1"])
-        self.assertEqual(tables["scenarios"][56], ["s70", "winter", "best", "10", "20", "", "2", "1", "1", ""])
+        self.assertEqual(tables["scenarios"][1], ["s15", "winter", "impossible", "", "", "", "", "5", "", "", "", "S1"])
+        self.assertEqual(tables["scenarios"][56], ["s70", "winter", "best", "10", "20", "10", "50", "", "2", "1", "1", ""])
         self.assertEqual(tables["lines"][1], ["1", "R1", "D1", "1", "80", "80", "60", "60", "17", "60"])
         self.assertEqual(tables["elements"][1], ["S1", "segment", "A", "B", "100", "100", "105", "110"])
 
