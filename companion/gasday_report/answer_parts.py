@@ -10,7 +10,7 @@ from .html_parts import notes_html, table_html
 from .page_tables import Table, shown_sharings
 from .picture import picture_of
 from .text_format import set_in_words
-from .words import CUT_NOTE, counted, grouped
+from .words import CUT_NOTE, counted, exact_words, grouped
 
 LEGEND = """<div class="legend"><span><i style="background:var(--idle)"></i>carries nothing</span>
 <span><i style="background:var(--low)"></i>below half</span><span><i style="background:var(--middle)"></i>half to 90 %</span>
@@ -27,9 +27,9 @@ PICTURE_NOTE = "Hover over an element for its numbers; choose it, by a click or 
 def counts_html(facts: Facts) -> str:
     short, bumped = sum(bool(line.short) for line in facts.lines), sum(bool(line.bumped) for line in facts.lines)
     full = sum(element.room == 0 for element in facts.elements)
-    words = [(len(facts.lines), "lines"), (short, "with less than confirmed"), (full, "full segments and points")]
+    words = [(len(facts.lines), "lines"), (short, "lines with less than confirmed"), (full, "full segments and points")]
     if any(line.bumped is not None for line in facts.lines):
-        words.append((bumped, "bumped"))
+        words.append((bumped, "lines bumped"))
     return f'<div class="counts">{"".join(f"<div><b>{grouped(n)}</b>{escape(word)}</div>" for n, word in words)}</div>'
 
 
@@ -58,6 +58,11 @@ def sharing_html(facts: Facts, table: Table) -> str:
     left_out = len(facts.sharings) - len(shown_sharings(facts))
     more = f'<p class="warn">{counted(left_out, "more element")}: the formats json and csv have all.</p>' if left_out else ""
     return notes_html(constraint_words(facts)) + table_html(table) + more
+
+
+def exact_html(facts: Facts) -> str:
+    """Of how many lines that are short the reasons are exact."""
+    return f'<p class="note">{escape(exact_words(facts.short_lines, facts.exact_reasons))}</p>' if facts.short_lines else ""
 
 
 def sum_html(sums: Sums) -> str:

@@ -3,8 +3,9 @@ none fits that is said."""
 
 from collections.abc import Sequence
 
-from .causes import CONFIRMATION, ELAPSED, NOMINATION, SILENCE, UNTOLD, AnswerCause, Cause, EndAnswer
+from .causes import CONFIRMATION, ELAPSED, NOMINATION, SILENCE, UNTOLD, AnswerCause, EndAnswer
 from .course import Bound, Round
+from .deciding import Cause
 
 
 def confirmed_by(cycle: int, nominated: int, former: int, bound: Bound, answers: Sequence[EndAnswer]) -> str:

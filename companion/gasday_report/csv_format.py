@@ -6,18 +6,20 @@ from typing import TextIO
 
 from certificate import CLASSES
 
-from .cause_words import Label, line_number, words_of
-from .causes import AnswerCause, Cause, ElementCause, PoolCause
+from .cause_words import words_of
+from .causes import AnswerCause, ElementCause, PoolCause
 from .day import Call, Day
-from .day_text import labels_of, reasons_of
+from .day_text import reasons_of
+from .deciding import Cause, Decision, decision_in
 from .facts import ElementFact, Facts, LineFact
 from .report import Report
 from .rounds import RoundFacts, RoundLine
 
 Cell = str | int | None
 
+DECISION_COLUMNS = ("decided_by", "decided_class", "decided_exactly", "share_percent")
 LINE_COLUMNS = ("line", "origin", "destination", "class", "floor", "ceiling", "scheduled", "short", "bumped",
-                "reason_elements", "reason", "cut_way", "cut_quantity", "reason_kinds")
+                "reason_elements", "reason", "cut_way", "cut_quantity", "reason_kinds", *DECISION_COLUMNS)
 ELEMENT_COLUMNS = ("element", "kind", "from", "to", "operator", "capacity", "load", "room", "full",
                    *(f"price_{c}" for c in range(1, CLASSES + 1)), *(f"spread_{c}" for c in range(1, CLASSES + 1)),
                    "inside", "cut_capacity", "usual_capacity")
@@ -26,7 +28,7 @@ ROUND_COLUMNS = ("cycle", "round", "outcome")
 ROUND_LINE_COLUMNS = (*ROUND_COLUMNS, "line", "shipper", "contract", "package", "origin", "destination", "class", "nominated",
                       "origin_operator", "origin_confirmed", "destination_operator", "destination_confirmed", "confirmed",
                       "confirmed_by", "former", "waived", "floor", "scheduled", "bumped", "reason_kinds", "reason_elements",
-                      "reason", "cut_way", "cut_quantity", "freed_by_waiver")
+                      "reason", "cut_way", "cut_quantity", "freed_by_waiver", *DECISION_COLUMNS)
 SHARING_COLUMNS = ("element", "kind", "capacity", "usual_capacity", "load", "line", "class", "floor", "scheduled")
 
 
@@ -45,15 +47,25 @@ def element_in(cause: Cause) -> str:
     return "+".join(answer.end for answer in cause.answers) if isinstance(cause, AnswerCause) else ""
 
 
-def kinds_of(causes: Iterable[Cause]) -> str:
-    return " ".join(cause.kind.replace(" ", "_") for cause in causes)
+def reason_cells(causes: Sequence[Cause]) -> tuple[str, str]:
+    """The kinds of the causes, and their elements; what decides has columns of its own."""
+    shown = [cause for cause in causes if not isinstance(cause, Decision)]
+    return " ".join(cause.kind.replace(" ", "_") for cause in shown), " ".join(map(element_in, shown))
+
+
+def decision_cells(causes: Iterable[Cause]) -> list[Cell]:
+    decision = decision_in(causes)
+    if decision is None:
+        return [None] * len(DECISION_COLUMNS)
+    percent = f"{decision.share.percent:.2f}" if decision.share else None
+    return [decision.kind.replace(" ", "_"), decision.first_class or None, decision.is_exact, percent]
 
 
 def line_row(line: LineFact, cycle: int) -> list[Cell]:
-    elements = " ".join(map(element_in, line.causes))
-    words = "; ".join(words_of(line.causes, cycle, line.class_number, line_number))
+    kinds, elements = reason_cells(line.causes)
+    words = "; ".join(words_of(line.causes, cycle, line.class_number))
     return [line.number, line.origin, line.destination, line.class_number, line.floor, line.ceiling, line.scheduled, line.short,
-            line.bumped, elements, words, line.cut_way, line.cut_quantity, kinds_of(line.causes)]
+            line.bumped, elements, words, line.cut_way, line.cut_quantity, kinds, *decision_cells(line.causes)]
 
 
 def element_row(element: ElementFact) -> list[Cell]:
@@ -67,13 +79,13 @@ def call_row(call: Call) -> list[Cell]:
     return [call.number, call.seconds, call.moment, call.kind, call.refused, call.asked, call.told]
 
 
-def round_line_row(line: RoundLine, made: RoundFacts, label: Label) -> list[Cell]:
+def round_line_row(line: RoundLine, made: RoundFacts) -> list[Cell]:
     at, cycle = line.line, made.round.cycle
     answers = [cell for answer in line.answers for cell in (answer.operator, answer.quantity)]
-    words = "; ".join(reasons_of(line, cycle, label))
+    words, (kinds, elements) = "; ".join(reasons_of(line, cycle)), reason_cells(line.causes)
     return [at.number, at.shipper, at.contract, at.package, at.origin, at.destination, line.class_number, line.nominated,
             *answers, line.confirmed, line.confirmed_by, line.former, line.waived, line.floor, line.scheduled, line.bumped,
-            kinds_of(line.causes), " ".join(map(element_in, line.causes)), words, line.cut_way, line.cut_quantity, line.freed]
+            kinds, elements, words, line.cut_way, line.cut_quantity, line.freed, *decision_cells(line.causes)]
 
 
 def rounds_of(day: Day | None) -> Iterator[tuple[list[Cell], RoundFacts]]:
@@ -93,7 +105,7 @@ def day_table(day: Day | None, table: str) -> tuple[Sequence[str], Iterable[list
     """A table of all rounds of a gas day."""
     rounds = rounds_of(day)
     if table == "cycle-lines":
-        return ROUND_LINE_COLUMNS, ([*at, *round_line_row(line, made, labels_of(made.lines))] for at, made in rounds
+        return ROUND_LINE_COLUMNS, ([*at, *round_line_row(line, made)] for at, made in rounds
                                     for line in made.lines)
     if table == "cycle-elements":
         return (*ROUND_COLUMNS, *ELEMENT_COLUMNS), ([*at, *element_row(element)] for at, made in rounds

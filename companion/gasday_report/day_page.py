@@ -3,7 +3,7 @@
 
 from html import escape
 
-from .answer_parts import counts_html, picture_html, set_html, sharing_html, sum_html, totals_html
+from .answer_parts import counts_html, exact_html, picture_html, set_html, sharing_html, sum_html, totals_html
 from .day import TIMES, Day
 from .day_text import WAIVER_NOTE, outcome_words, round_heading
 from .facts import Facts
@@ -57,7 +57,8 @@ def cycle_cells(cycle: CycleFacts) -> list[Cell]:
 
 def cycles_table(day: Day) -> Table:
     columns = [column("cycle", name=True), column("what came of it"),
-               *numbers("rounds", "lines", "nominated", "confirmed", "scheduled", "with less", "bumped"), column("limited by")]
+               *numbers("rounds", "lines", "nominated", "confirmed", "scheduled", "lines with less than nominated",
+                        "lines bumped"), column("limited by")]
     known = {cycle.cycle.number: cycle_cells(cycle) for cycle in day.cycles}
     rows = [known.get(number, [name, "not reached", *[None] * 7, ""]) for number, name in CYCLES.items()]
     return {"id": "cycles", "columns": columns, "rows": rows, "marks": [], "choice": -1}
@@ -67,7 +68,7 @@ def schedule_parts(made: RoundFacts, facts: Facts, name: str) -> list[str]:
     sharing = sharing_html(facts, round_sharing(made, facts, f"sharing-{name}"))
     parts = ["<h4>Who shares what is full</h4>", sharing] if sharing else []
     return [counts_html(facts), totals_html(facts), picture_html(facts, f"elements-{name}"), "<h4>Lines</h4>",
-            table_html(round_line_table(made, f"lines-{name}")), *parts, "<h4>Segments, points and pools</h4>",
+            table_html(round_line_table(made, f"lines-{name}")), exact_html(facts), *parts, "<h4>Segments, points and pools</h4>",
             table_html(element_table(facts, f"elements-{name}"))]
 
 

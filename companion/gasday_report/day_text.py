@@ -2,14 +2,14 @@
 
 from collections.abc import Iterator, Sequence
 
-from .cause_words import Label, arithmetic_words, words_of
+from .cause_words import Label, arithmetic_words, sharing_words, words_of
 from .causes import CONFIRMATION, ELAPSED, NOMINATION, SILENCE, EndAnswer
 from .course import DECLARED, FROZEN, PUBLISHED
 from .day import TIMES, Day
 from .facts import Facts
 from .moments import Clock
 from .rounds import CycleFacts, RoundFacts, RoundLine
-from .words import CYCLES, counted, grouped, listed
+from .words import CYCLES, counted, exact_words, grouped, listed
 
 WAIVER_NOTE = ("What waiving a line would free is what its floor falls by, as gasday tells where it is waived and the cycle"
                " frozen again. It says nothing about who should waive; and where this set is no cut any more, another one may"
@@ -56,8 +56,8 @@ def freed_words(line: RoundLine, excess: int) -> str:
     return f"waiving it would free {grouped(line.freed)}, where {grouped(excess)} are too many{enough}"
 
 
-def reasons_of(line: RoundLine, cycle: int, label: Label) -> list[str]:
-    return words_of(line.causes, cycle, line.class_number, label)
+def reasons_of(line: RoundLine, cycle: int) -> list[str]:
+    return words_of(line.causes, cycle, line.class_number)
 
 
 def outcome_words(cycle: CycleFacts) -> str:
@@ -93,7 +93,7 @@ def cut_words(facts: Facts) -> str:
             f" so {excess} too many: the excess")
 
 
-def round_line_rows(line: RoundLine, made: RoundFacts, label: Label, arithmetic: bool) -> Iterator[str]:
+def round_line_rows(line: RoundLine, made: RoundFacts, arithmetic: bool) -> Iterator[str]:
     cycle = made.round.cycle
     scheduled = "" if line.scheduled is None else f", scheduled {grouped(line.scheduled)}"
     bumped = f", bumped by {grouped(line.bumped)}" if line.bumped else ""
@@ -101,7 +101,7 @@ def round_line_rows(line: RoundLine, made: RoundFacts, label: Label, arithmetic:
     yield line_words(line)
     yield (f"    nominated {grouped(line.nominated)}, confirmed {grouped(line.confirmed)} ({confirmed_words(line, cycle)}),"
            f" floor {grouped(line.floor)}{waived}{scheduled}{bumped}")
-    yield from (f"    why: {words}" for words in reasons_of(line, cycle, label))
+    yield from (f"    why: {words}" for words in reasons_of(line, cycle))
     if arithmetic and line.reason:
         yield from (f"    arithmetic: {words}" for words in arithmetic_words(line.reason))
     if made.facts and made.facts.sums and line.cut_quantity:
@@ -117,11 +117,12 @@ def round_rows(made: RoundFacts, clock: Clock, arithmetic: bool) -> Iterator[str
     yield from (f"  {note}" for note in made.notes)
     if made.facts and made.facts.is_cut:
         yield f"  {cut_words(made.facts)}"
-    elif made.facts:
-        yield from (f"  full: {words}" for words in constraint_words(made.facts))
-    label = labels_of(made.lines)
     for line in made.lines:
-        yield from (f"  {row}" for row in round_line_rows(line, made, label, arithmetic))
+        yield from (f"  {row}" for row in round_line_rows(line, made, arithmetic))
+    if made.facts and made.facts.short_lines:
+        yield f"  {exact_words(made.facts.short_lines, made.facts.exact_reasons)}"
+        label = labels_of(made.lines)
+        yield from (f"  full: {sharing_words(sharing, label)}" for sharing in made.facts.sharings)
 
 
 def cycle_rows(day: Day, arithmetic: bool) -> Iterator[str]:

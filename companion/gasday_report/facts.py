@@ -1,13 +1,16 @@
 """What an answer that passed says of each line and each element; every format is made of these facts."""
 
-from collections.abc import Iterator, Mapping, Sequence
+from collections.abc import Iterable, Iterator, Mapping, Sequence
 from typing import NamedTuple
 
 from certificate import NOTHING, Answer, Crossing, Question, Sums, Words, crossing_of, sums_of
 
-from .causes import Cause, Causes
+from .causes import Causes, sharings_in
+from .deciding import Cause
+from .program import Program
 from .reasons import Reason, Reasons
 from .sharing import Sharing, Sharings
+from .solving import Outcome, outcomes_of
 from .texts import Fault, Input, Row, number_of, of_kinds
 
 
@@ -61,6 +64,8 @@ class Facts(NamedTuple):
     members: list[tuple[str, str]]  # of a cut: kind and name, in order of entry
     asked: Question
     sharings: tuple[Sharing, ...] = ()  # who shares the elements that a reason names
+    short_lines: int = 0  # lines that are below their ceilings
+    exact_reasons: int = 0  # and of how many the reason is exact, since the question was solved again
 
     @property
     def is_cut(self) -> bool:
@@ -83,13 +88,14 @@ def usual_capacities(rows: Sequence[Row]) -> dict[str, int]:
     return {row[1]: number_of(row[4 if row[0] == "segment" else 5], "question") for row in of_kinds(rows, ("segment", "point"))}
 
 
-def scheduled_lines(asked: Question, answer: Answer, sharings: Sharings, bumped: Mapping[int, int]) -> Iterator[LineFact]:
+def scheduled_lines(asked: Question, answer: Answer, sharings: Sharings, bumped: Mapping[int, int],
+                    outcomes: Mapping[int, Outcome]) -> Iterator[LineFact]:
     reasons = Reasons(asked, answer, sharings.loads)
-    causes = Causes(asked, reasons, sharings)
+    causes = Causes(asked, reasons, sharings, outcomes)
     for number, (line, quantity) in enumerate(zip(asked.lines, answer.quantities, strict=True), 1):
-        more, reason = bumped.get(number, 0) if bumped else None, reasons.reason(number)
+        more = bumped.get(number, 0) if bumped else None
         yield LineFact(number, *line, scheduled=quantity, short=line.ceiling - quantity, bumped=more,
-                       reason=reason, causes=tuple(causes.of_line(number, reason)))
+                       reason=reasons.reason(number), causes=tuple(causes.of_line(number)))
 
 
 def cut_lines(asked: Question, crossing: Crossing) -> Iterator[LineFact]:
@@ -98,6 +104,12 @@ def cut_lines(asked: Question, crossing: Crossing) -> Iterator[LineFact]:
     for number, line in enumerate(asked.lines, 1):
         way, quantity = ways.get(number, ("", None))
         yield LineFact(number, *line, cut_way=way, cut_quantity=quantity)
+
+
+def named_sharings(lines: Iterable[LineFact]) -> tuple[Sharing, ...]:
+    """The full elements that the reasons name, each once."""
+    named = {sharing.element: sharing for line in lines for cause in line.causes for sharing in sharings_in(cause)}
+    return tuple(named.values())
 
 
 def entering(asked: Question, quantities: Sequence[int]) -> dict[str, int]:
@@ -142,20 +154,21 @@ def members_of(asked: Question, answer: Answer) -> list[tuple[str, str]]:
     return [member for member in places + ends if member in answer.members]
 
 
-def facts_of(question: Input, answer_file: Input, asked: Question, answer: Answer) -> Facts:
-    """The facts of a question and an answer that passed."""
+def facts_of(question: Input, answer_file: Input, asked: Question, answer: Answer, program: Program | None = None) -> Facts:
+    """The facts of a question and an answer that passed. The program solves the question again for the lines that are
+    short; where none is given, their reasons are bounds."""
     rows = question.rows()
     _, book, cycle, times = of_kinds(rows, ("question",))[0][:4]
+    head = book, number_of(cycle, "question"), number_of(times, "question")
     bumped = bumped_of(answer_file.rows(), len(asked.lines))
     if answer.is_cut:
-        crossing, loads, sharings = crossing_of(asked, answer.members), None, None
+        crossing = crossing_of(asked, answer.members)
         lines = list(cut_lines(asked, crossing))
-        members, sums = members_of(asked, answer), sums_of(crossing)
-    else:
-        crossing, loads = None, asked.loads(answer.quantities)
-        sharings = Sharings(asked, answer.quantities, loads, usual_capacities(rows))
-        lines = list(scheduled_lines(asked, answer, sharings, bumped))
-        members, sums = [], None
-    elements = list(element_facts(asked, rows, answer, loads, crossing))
-    return Facts(book, number_of(cycle, "question"), number_of(times, "question"), lines, elements, totals_of(lines), sums,
-                 members, asked, tuple(sharings.found.values()) if sharings else ())
+        return Facts(*head, lines, list(element_facts(asked, rows, answer, None, crossing)), totals_of(lines), sums_of(crossing),
+                     members_of(asked, answer), asked)
+    loads = asked.loads(answer.quantities)
+    sharings = Sharings(asked, answer.quantities, loads, usual_capacities(rows))
+    outcomes = outcomes_of(program, question, asked, answer) if program else {}
+    lines = list(scheduled_lines(asked, answer, sharings, bumped, outcomes))
+    return Facts(*head, lines, list(element_facts(asked, rows, answer, loads, None)), totals_of(lines), None, [], asked,
+                 named_sharings(lines), sum(bool(line.short) for line in lines), len(outcomes))

@@ -6,7 +6,7 @@ from typing import TextIO
 
 from certificate import Sums
 
-from .answer_parts import counts_html, picture_html, set_html, sharing_html, sum_html, totals_html
+from .answer_parts import counts_html, exact_html, picture_html, set_html, sharing_html, sum_html, totals_html
 from .day_page import day_html
 from .facts import Facts
 from .html_parts import document, notes_html, section, table_html
@@ -39,7 +39,8 @@ def schedule_html(facts: Facts) -> str:
     sharing = sharing_html(facts, answer_sharing(facts))
     return "".join([
         section("The schedule", counts_html(facts), totals_html(facts)),
-        section("The pipeline", picture_html(facts, "elements")), section("Lines", table_html(line_table(facts))),
+        section("The pipeline", picture_html(facts, "elements")),
+        section("Lines", table_html(line_table(facts)), exact_html(facts)),
         section("Who shares what is full", sharing) if sharing else "",
         section("Segments, points and pools", table_html(element_table(facts)))])
 

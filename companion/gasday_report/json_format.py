@@ -7,7 +7,7 @@ from typing import Any, TextIO
 from certificate import CLASSES, Sums
 
 from .day import TIMES, Call, Day
-from .day_json import arithmetic_of, cause_of, cycle_of, moment_of, sharing_of
+from .day_json import arithmetic_of, causes_of, cycle_of, decided_of, moment_of, sharing_of
 from .facts import ElementFact, Facts, LineFact
 from .report import Report
 
@@ -31,8 +31,8 @@ def line_of(line: LineFact) -> Names:
     return {
         "line": line.number, "origin": line.origin, "destination": line.destination, "class": line.class_number,
         "floor": line.floor, "ceiling": line.ceiling, "scheduled": line.scheduled, "short": line.short,
-        "bumped": line.bumped, "causes": list(map(cause_of, line.causes)), "arithmetic": arithmetic_of(line.reason),
-        "cut_way": line.cut_way or None, "cut_quantity": line.cut_quantity,
+        "bumped": line.bumped, "causes": causes_of(line.causes), "decided": decided_of(line.causes),
+        "arithmetic": arithmetic_of(line.reason), "cut_way": line.cut_way or None, "cut_quantity": line.cut_quantity,
     }
 
 
@@ -59,6 +59,7 @@ def answer_of(facts: Facts) -> Names:
                    for c, asked, given in facts.totals],
         "cut": None if facts.sums is None else cut_of(facts, facts.sums),
         "sharing": list(map(sharing_of, facts.sharings)), "elements": list(map(element_of, facts.elements)),
+        "short_lines": facts.short_lines, "exact_reasons": facts.exact_reasons,
     }
 
 

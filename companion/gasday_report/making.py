@@ -53,7 +53,7 @@ def add_answer(report: Report, arguments: argparse.Namespace) -> tuple[Input, Qu
     together = [] if arguments.posting else answer_verdict(question, answer, asked)
     report.verdicts += [*verdicts, own, *together]
     if report.passed():
-        report.facts = facts_of(question, answer, asked, given)
+        report.facts = facts_of(question, answer, asked, given, report.program)
     return question, asked, given
 
 

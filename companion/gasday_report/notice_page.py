@@ -1,9 +1,8 @@
 """The public page of a cycle: what each segment and point carries and what is left, and what is full. It names no shipper."""
 
-from collections.abc import Iterator
 from html import escape
 
-from .causes import Cause, ElementCause, PoolCause
+from .causes import sharings_in
 from .day import Day
 from .facts import ElementFact, Facts
 from .html_parts import document, section, table_html
@@ -14,20 +13,13 @@ from .text_format import set_in_words
 from .words import CYCLES, grouped, listed
 
 
-def named_in(cause: Cause) -> Iterator[str]:
-    if isinstance(cause, ElementCause):
-        yield cause.sharing.element
-    elif isinstance(cause, PoolCause):
-        yield from (sharing.element for sharing in cause.full)
-
-
 def limited_classes(made: RoundFacts) -> dict[str, set[int]]:
     """For each element that keeps a line from its confirmed quantity, the classes of such lines."""
     found: dict[str, set[int]] = {}
     for line in made.lines:
         for cause in line.causes:
-            for name in named_in(cause):
-                found.setdefault(name, set()).add(line.class_number)
+            for sharing in sharings_in(cause):
+                found.setdefault(sharing.element, set()).add(line.class_number)
     return found
 
 

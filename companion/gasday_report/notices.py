@@ -1,12 +1,13 @@
 """Notices of a gas day: for each cycle a file to each shipper and each operator, with their own lines alone, and a public page
-of what is full. No notice names another shipper: a reason tells what each class has of an element, and not whose lines."""
+of what is full. No notice names another shipper: it shows what each class has of an element, and not whose lines."""
 
 import csv
 import io
 import os
-from collections.abc import Iterable, Iterator, Mapping
+from collections.abc import Iterable, Iterator, Mapping, Sequence
 
-from .cause_words import unnamed
+from .cause_words import sharing_words, unnamed
+from .causes import sharings_in
 from .course import DECLARED, FROZEN, PUBLISHED
 from .csv_format import ROUND_COLUMNS, ROUND_LINE_COLUMNS, blank, round_line_row
 from .day import Day
@@ -44,7 +45,7 @@ def own_lines(made: RoundFacts) -> dict[tuple[str, str], list[RoundLine]]:
 
 
 def text_notice(report: Report, day: Day, made: RoundFacts, words: str, party: tuple[str, str],
-                lines: Iterable[RoundLine]) -> Iterator[str]:
+                lines: Sequence[RoundLine]) -> Iterator[str]:
     role, name = party
     cycle = made.round.cycle
     yield f"Notice to {name}, {role}"
@@ -58,9 +59,19 @@ def text_notice(report: Report, day: Day, made: RoundFacts, words: str, party: t
         yield cut_words(made.facts)
     for line in lines:
         yield ""
-        yield from round_line_rows(line, made, unnamed, False)
+        yield from round_line_rows(line, made, False)
         if words == SKIPPED:
             yield f"    stays scheduled: {grouped(line.former)}"
+    yield from full_rows(lines)
+
+
+def full_rows(lines: Iterable[RoundLine]) -> Iterator[str]:
+    """Once for each element that the reasons of these lines name: what each class has of it, and of no other line by name."""
+    named = {sharing.element: sharing for line in lines for cause in line.causes for sharing in sharings_in(cause)}
+    if named:
+        yield ""
+        yield "What is full, by class"
+        yield from (f"    {sharing_words(sharing, unnamed)}" for sharing in named.values())
 
 
 def csv_notice(made: RoundFacts, lines: Iterable[RoundLine]) -> str:
@@ -69,7 +80,7 @@ def csv_notice(made: RoundFacts, lines: Iterable[RoundLine]) -> str:
     writer.writerow(ROUND_LINE_COLUMNS)
     at = made.round
     head = [at.cycle, at.number, at.outcome][:len(ROUND_COLUMNS)]
-    writer.writerows([*head, *map(blank, round_line_row(line, made, unnamed))] for line in lines)
+    writer.writerows([*head, *map(blank, round_line_row(line, made))] for line in lines)
     return out.getvalue()
 
 

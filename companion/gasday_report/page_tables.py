@@ -4,9 +4,9 @@ from collections.abc import Callable, Iterable, Sequence
 from dataclasses import dataclass
 from typing import NotRequired, TypedDict
 
-from .cause_words import arithmetic_words, line_number, words_of
+from .cause_words import arithmetic_words, words_of
 from .day import Day
-from .day_text import answer_part, by_words, labels_of, reasons_of
+from .day_text import answer_part, by_words, reasons_of
 from .facts import ElementFact, Facts, LineFact
 from .reasons import Reason
 from .rounds import RoundFacts, RoundLine
@@ -86,13 +86,13 @@ def why_cell(words: Iterable[str], reason: Reason | None) -> Sentences:
 
 def line_table(facts: Facts) -> Table:
     has_bumped = any(line.bumped is not None for line in facts.lines)
-    columns = ENDS + numbers("floor", "confirmed", "scheduled", "short") + numbers(*["bumped"] * has_bumped)
+    columns = ENDS + numbers("floor", "confirmed", "scheduled", "short by") + numbers(*["bumped by"] * has_bumped)
     columns.append(column("why", words=True))
     marks = [mark("short", 7, "short")] + ([mark("bumped", 8, "bumped")] if has_bumped else [])
     rows: list[list[Cell]] = []
     for line in facts.lines:
         bumped: list[Cell] = [line.bumped] if has_bumped else []
-        words = words_of(line.causes, facts.cycle, line.class_number, line_number)
+        words = words_of(line.causes, facts.cycle, line.class_number)
         rows.append([*line_cells(line), line.scheduled, line.short, *bumped, why_cell(words, line.reason)])
     return {"id": "lines", "columns": columns, "rows": rows, "marks": marks, "choice": 3}
 
@@ -144,11 +144,11 @@ def round_line_cells(line: RoundLine, cycle: int) -> list[Cell]:
 
 def round_line_table(made: RoundFacts, name: str) -> Table:
     """The lines of a round that was published, or is frozen."""
-    columns = [*ROUND_COLUMNS, *numbers("scheduled", "less", "bumped"), column("why", words=True)]
-    label, rows, cycle = labels_of(made.lines), [], made.round.cycle
+    columns = [*ROUND_COLUMNS, *numbers("scheduled", "less than nominated", "bumped by"), column("why", words=True)]
+    rows, cycle = [], made.round.cycle
     for line in made.lines:
         less = None if line.scheduled is None else max(line.nominated - line.scheduled, 0)
-        why = why_cell(reasons_of(line, cycle, label), line.reason)
+        why = why_cell(reasons_of(line, cycle), line.reason)
         rows.append([*round_line_cells(line, cycle), line.scheduled, less, line.bumped, why])
     marks = [mark("with less than nominated", 10, "short"), mark("bumped", 11, "bumped")]
     return {"id": name, "columns": columns, "rows": rows, "marks": marks, "choice": 1}
@@ -156,14 +156,16 @@ def round_line_table(made: RoundFacts, name: str) -> Table:
 
 def round_cut_table(made: RoundFacts, excess: int, name: str) -> Table:
     """The lines of a declared round: which count in the cut, and what a waiver of each would free."""
-    columns = [*ROUND_COLUMNS, column("crosses"), *numbers("counts", "waiver frees"), column("and then")]
+    columns = [*ROUND_COLUMNS, column("crosses"), *numbers("counts", "waiver frees"), column("and then"),
+               column("why less than nominated", words=True)]
     ways = {"out": "leaves the set", "in": "comes back"}
     rows: list[list[Cell]] = []
     for line in made.lines:
         left = excess - line.freed if line.freed is not None else None
         means = "" if left is None else "this set is no cut" if left <= 0 else f"{grouped(left)} too many"
+        why = why_cell(reasons_of(line, made.round.cycle), None)
         rows.append([*round_line_cells(line, made.round.cycle), ways.get(line.cut_way, ""), line.cut_quantity, line.freed,
-                     means])
+                     means, why])
     return {"id": name, "columns": columns, "rows": rows, "marks": [mark("those that count", 10, "crosses")], "choice": 1}
 
 

@@ -22,14 +22,14 @@ def program_at(path: str | None) -> str:
     return found
 
 
-def call(program: str, words: Sequence[str], text: bytes) -> tuple[bytes, int]:
+def call(program: str, words: Sequence[str], text: bytes, seconds: int = SECONDS) -> tuple[bytes, int]:
     """What the program prints, and its exit status."""
     try:
-        done = subprocess.run([program, *words], input=text, capture_output=True, timeout=SECONDS)
+        done = subprocess.run([program, *words], input=text, capture_output=True, timeout=seconds)
     except OSError as error:
         raise Fault(f"{program} can't be run: {error.strerror}") from None
     except subprocess.TimeoutExpired:
-        raise Fault(f"{program} was not ready after {SECONDS} seconds") from None
+        raise Fault(f"{program} was not ready after {seconds} seconds") from None
     return done.stdout, done.returncode
 
 

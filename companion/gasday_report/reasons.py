@@ -1,10 +1,10 @@
 """Why a line is short: the elements whose prices its next dekatherm would have to pay, traced through pools to what is
 full."""
 
-from collections.abc import Mapping
+from collections.abc import Iterator, Mapping
 from typing import NamedTuple
 
-from certificate import NOTHING, Answer, Line, Question, Words, plus, tenth_of, worth_of
+from certificate import CLASSES, NOTHING, Answer, Line, Question, Words, plus, tenth_of, worth_of
 
 from .words import displaced
 
@@ -17,6 +17,11 @@ def rank_of(amount: Words) -> int:
     """Greater amounts have lesser ranks, by their first word that isn't 0: it decides before all words behind it."""
     at = next(k for k, word in enumerate(amount) if word)
     return at if amount[at] > 0 else 2 * len(amount) - at
+
+
+def deciding_class(amount: Words) -> int:
+    """The first class of an amount; beyond all classes where it has words of the spread alone."""
+    return next((at for at, word in enumerate(amount[:CLASSES], 1) if word), CLASSES + 1)
 
 
 class Payment(NamedTuple):
@@ -112,26 +117,40 @@ class Reasons:
                 place = above[question.parent[place]]
         return found
 
-    def priced_segments(self, start: int, end: int) -> list[str]:
+    def route(self, number: int) -> Iterator[str]:
+        """The segments that a line passes, from either end."""
+        question, line = self.question, self.question.lines[number - 1]
+        start, end = question.place_of(line.origin), question.place_of(line.destination)
+        for place, other in ((start, end), (end, start)):
+            while not question.has_below(place, other):
+                yield question.segment_at[place]
+                place = question.parent[place]
+
+    def priced_segments(self, start: int, end: int, deciding: int) -> list[str]:
         """Segments of the route with the greatest prices, and those with prices below zero: no less than are named, if
-        there are so many."""
+        there are so many; and those whose prices begin with the class that decides."""
         found: list[str] = []
         above_zero = [rank for rank in self.priced_above if rank < len(NOTHING)]
         below_zero = [rank for rank in reversed(self.priced_above) if rank > len(NOTHING)]
         for ranks in (above_zero, below_zero):
             side: list[str] = []
             for rank in ranks:
-                if len(side) < MOST_NAMED:
+                if len(side) < MOST_NAMED or rank == deciding - 1:
                     side += self.segments_of_rank(rank, start, end)
             found += side
         return found
+
+    def bound(self, number: int) -> int:
+        """The first class of what a dekatherm of a line pays, less what it gets back."""
+        return deciding_class(self.costs[number - 1])
 
     def payments(self, number: int) -> tuple[list[Payment], list[Payment], int]:
         """The most that the line pays and gets back, in lists that the greatest begin; and how many elements of its route
         have a price."""
         line, question = self.question.lines[number - 1], self.question
         start, end = question.place_of(line.origin), question.place_of(line.destination)
-        amounts = [Payment(name, self.price(name)) for name in (*self.priced_segments(start, end), line.destination)]
+        segments = self.priced_segments(start, end, self.bound(number))
+        amounts = [Payment(name, self.price(name)) for name in (*segments, line.destination)]
         amounts.append(Payment(line.origin, plus(NOTHING, question.sign_at(line.origin), self.price(line.origin))))
         paid = sorted((p for p in amounts if p.amount > NOTHING), key=lambda payment: payment.amount, reverse=True)
         back = sorted((p for p in amounts if p.amount < NOTHING), key=lambda payment: payment.amount)

@@ -9,9 +9,10 @@ from dataclasses import dataclass, field
 from certificate import Question, Unreadable
 
 from .archives import Posting
-from .causes import Cause, EndAnswer
+from .causes import UNTOLD, EndAnswer
 from .confirming import answer_causes, answers_of, confirmed_by
 from .course import DECLARED, FROZEN, PUBLISHED, Cycle, DayLine, Round
+from .deciding import Cause
 from .facts import Facts, LineFact, facts_of
 from .program import Program
 from .reasons import Reason
@@ -99,6 +100,11 @@ def read_question(rows: Iterable[Row], name: str) -> Question:
         raise Fault(f"{name}: no question: {error}") from None
 
 
+def unknown_cause(ceiling: int, scheduled: int | None) -> tuple[Cause, ...]:
+    """That a line has less than its ceiling where there are no prices to say why."""
+    return (Cause(UNTOLD, ceiling, scheduled),) if scheduled is not None and scheduled < ceiling else ()
+
+
 def mismatch_of(posting: Posting, ours: Sequence[Row], book: str, at: Round) -> str:
     """In what a posting isn't the round that was told; nothing where it is."""
     name = f"the posting of cycle {at.cycle}"
@@ -170,7 +176,7 @@ class Rounds:
         verdicts.append(own)
         self.verdicts += [(at.number, verdict) for verdict in verdicts]
         passed = all(verdict.passed for verdict in verdicts)
-        return facts_of(asked_input, answer, asked, given) if passed else None
+        return facts_of(asked_input, answer, asked, given, self.program) if passed else None
 
     def freed(self, made: RoundFacts) -> dict[int, int]:
         """By line how much less its floor is once it is waived: the program is asked to waive all whose floors are in the cut,
@@ -198,11 +204,12 @@ class Rounds:
         answers = answers_of(at, number, ends)
         by = confirmed_by(at.cycle, nominated, former, bound, answers)
         is_published = at.outcome == PUBLISHED
+        scheduled = at.scheduled[number - 1] if is_published else None
+        below_ceiling = fact.causes if fact else unknown_cause(bound.ceiling, scheduled)
         return RoundLine(
             line, bound.class_number, nominated, bound.ceiling, by, answers, former, number in at.waived, bound.floor,
-            scheduled=at.scheduled[number - 1] if is_published else None,
-            bumped=at.bumped.get(number, 0) if is_published else None,
-            causes=(*answer_causes(by, nominated, bound.ceiling, answers), *(fact.causes if fact else ())),
+            scheduled=scheduled, bumped=at.bumped.get(number, 0) if is_published else None,
+            causes=(*answer_causes(by, nominated, bound.ceiling, answers), *below_ceiling),
             reason=fact.reason if fact else None, cut_way=fact.cut_way if fact else "",
             cut_quantity=fact.cut_quantity if fact else None, freed=freed)
 

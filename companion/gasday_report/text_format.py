@@ -5,13 +5,13 @@ from typing import TextIO
 
 from certificate import Sums
 
-from .cause_words import arithmetic_words, line_number, words_of
+from .cause_words import arithmetic_words, line_number, sharing_words, words_of
 from .day import Day
 from .day_text import cycle_rows, times_rows
 from .facts import ElementFact, Facts, LineFact
 from .report import Report
 from .texts import Input
-from .words import ARITHMETIC_NOTES, CUT_NOTE, CYCLES, REASON_NOTES, grouped, listed, price_in_words
+from .words import ARITHMETIC_NOTES, CUT_NOTE, CYCLES, REASON_NOTES, exact_words, grouped, listed, price_in_words
 
 KINDS = {"segment": "segment", "receipt": "receipt point", "delivery": "delivery point", "pool": "pool"}
 MOST_MEMBERS = 20
@@ -42,7 +42,7 @@ def line_rows(line: LineFact, cycle: int, arithmetic: bool) -> Iterator[str]:
     bumped = f", bumped by {grouped(line.bumped)}" if line.bumped else ""
     yield (f"{line_head(line)}: floor {grouped(line.floor)}, confirmed {grouped(line.ceiling)}, scheduled"
            f" {grouped(line.scheduled or 0)}{short}{bumped}")
-    yield from (f"    why: {words}" for words in words_of(line.causes, cycle, line.class_number, line_number))
+    yield from (f"    why: {words}" for words in words_of(line.causes, cycle, line.class_number))
     if arithmetic and line.reason:
         yield from (f"    arithmetic: {words}" for words in arithmetic_words(line.reason))
 
@@ -68,7 +68,13 @@ def schedule_rows(facts: Facts, arithmetic: bool) -> Iterator[str]:
     yield "Lines"
     for line in facts.lines:
         yield from line_rows(line, facts.cycle, arithmetic)
+    if facts.short_lines:
+        yield exact_words(facts.short_lines, facts.exact_reasons)
     yield ""
+    if facts.sharings:
+        yield "Who shares what is full"
+        yield from (sharing_words(sharing, line_number) for sharing in facts.sharings)
+        yield ""
     yield "Elements"
     yield from (element_row(element, arithmetic) for element in facts.elements)
     yield ""

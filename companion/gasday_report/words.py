@@ -9,8 +9,10 @@ CYCLES = {1: "Timely", 2: "Evening", 3: "Intraday 1", 4: "Intraday 2", 5: "Intra
 REASON_NOTES = (
     "'Nominated' is what the shipper asked for, 'confirmed' what the operators of both ends let pass; no line gets more than"
     " was confirmed.",
-    "A reason is one sufficient reason, taken from the prices that the answer has. Other prices may show the same schedule best,"
-    " so there may be other reasons.",
+    "A reason says what one dekatherm more for the line would displace, and names one place where that is so; there may be"
+    " others.",
+    "It is exact where the question was solved again with that dekatherm. 'Class N or higher' is a bound from the prices: class"
+    " N, a class with a smaller number, or no schedule at all.",
 )
 ARITHMETIC_NOTES = (
     "A price is a shadow price and no money: it counts, class by class, the dekatherms that one more dekatherm there"
@@ -67,3 +69,9 @@ def price_in_words(price: Words) -> str:
         if word or spread:
             parts.append(f"class {c}: {word}" + (f" and {spread} in the spread" if spread else ""))
     return "; ".join(parts)
+
+
+def exact_words(short: int, exact: int) -> str:
+    """Of how many lines that are short the reasons are exact."""
+    others = "" if exact == short else "; the others are bounds" if exact else "; all are bounds"
+    return f"Exact reasons: {exact:,} of {counted(short, 'line')} with less than confirmed{others}."

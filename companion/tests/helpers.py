@@ -21,6 +21,7 @@ GASDAY = Path(os.environ.get("GASDAY", BUILT)).resolve()
 needs_gasday = unittest.skipUnless(os.access(GASDAY, os.X_OK), "no program is built")
 
 ANSWER_KINDS = ("sched", "price", "inside")
+NO_SOLVE = 'if [ "$1" = solve ]; then exit 2; fi\n'
 VERSION = 'if [ "$1" = --version ]; then echo "gasday 9.8"; exit 0; fi\n'  # of a fake program
 
 # The question of docs/CERTIFICATES.md: S1 carries 100, line 1 of class 1 asks for 80 and line 2 of class 4 for 50.
@@ -82,11 +83,12 @@ class ReportTest(unittest.TestCase):
         return str(path)
 
     def program(self, told: str | bytes, status: int = 0) -> str:
-        """A program that tells so whatever it is asked but its version, and keeps its words and its text beside itself."""
+        """A program that prints this for all that it is asked but its version, and saves its words and its text next to itself.
+        It solves nothing, so that all reasons are bounds."""
         here = shlex.quote(self.folder.name)
         self.path("told", told)
-        path = self.path("gasday", f'#!/bin/sh\n{VERSION}echo "$@" >> {here}/words\ncat > {here}/text\ncat {here}/told\n'
-                         f"exit {status}\n")
+        path = self.path("gasday", f'#!/bin/sh\n{VERSION}{NO_SOLVE}echo "$@" >> {here}/words\ncat > {here}/text\n'
+                         f"cat {here}/told\nexit {status}\n")
         os.chmod(path, 0o755)
         return path
 

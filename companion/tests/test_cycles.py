@@ -35,8 +35,9 @@ class Told(DayTest):
         self.assertIn("  Line 1: SHIP, contract INT, package P, R1 to D1, class 4\n"
                       "      nominated 70, confirmed 70 (by silence, scheduled before: 70; OPR silent at the origin, OPD silent"
                       " at the destination), floor 0, scheduled 50, bumped by 20\n"
-                      "      why: S1 is full, 100 of 100: class 1 has 50 (line 2 SHIP FIRM 50) and class 4 has 50 (line 1 SHIP"
-                      " INT 50); what is left goes to this line\n", out)
+                      "      why: other gas of class 4 or higher goes first; S1 is full, 100 of 100\n", out)
+        self.assertIn("  full: S1 is full, 100 of 100: class 1 has 50 (line 2 SHIP FIRM 50) and class 4 has 50 (line 1 SHIP INT"
+                      " 50)\n", out)
         self.assertNotIn("tenth", out)
         self.assertIn("arithmetic: its next dekatherm, of class 4 and tenth 8, is worth just that", self.day("--arithmetic")[0])
 
@@ -222,7 +223,9 @@ class FiveCycles(DayTest):
         rounds = {made["round"]: made for cycle in self.cycles() for made in cycle["rounds"]}
         evening = rounds[2]["lines"][1]["causes"]
         self.assertEqual([(cause["kind"], cause.get("element"), cause["before"], cause["after"]) for cause in evening],
-                         [("capacity", "TRUNK", 15000, 10000)])
+                         [("higher_class", "TRUNK", 15000, 10000)])
+        decided = rounds[2]["lines"][1]["decided"]
+        self.assertEqual([decided[name] for name in ("by", "class", "exact")], ["higher_class", 1, True])
         self.assertEqual([(share["class"], share["scheduled"]) for share in rounds[2]["answer"]["sharing"][0]["classes"]],
                          [(1, 40000), (4, 10000)])
         first = rounds[4]["answer"]["sharing"][0]
@@ -264,8 +267,10 @@ class FiveCycles(DayTest):
                 self.assertNotIn("HEAT", text, name)
             if "constraints" in name:
                 self.assertNotIn("TRADER", text, name)
-        self.assertIn("TRUNK is full, 50,000 of 50,000: class 1 has 40,000 and class 4 has 10,000",
-                      files["cycle-2-round-2/shipper-TRADER.txt"])
+        notice = files["cycle-2-round-2/shipper-TRADER.txt"]
+        self.assertIn("why: gas of class 1 goes before gas of class 4; TRUNK is full, 50,000 of 50,000\n", notice)
+        self.assertIn("What is full, by class\n    TRUNK is full, 50,000 of 50,000: class 1 has 40,000 with 30,000 of it in"
+                      " floors and class 4 has 10,000\n", notice)
         rows = list(csv.DictReader(io.StringIO(files["cycle-2-round-2/operator-MILL-OPS.csv"])))
         self.assertEqual([(row["line"], row["scheduled"]) for row in rows], [("2", "10000")])
         # A second time all is there; what is there with something else stays.

@@ -108,7 +108,7 @@ class Pages(ReportTest):
         self.assertEqual(lines[1], ["1", "R1", "D1", "1", "0", "80", "80", "0", ""])
         self.assertEqual(lines[2][:8], ["2", "R1", "D1", "4", "0", "50", "20", "30"])
         shown, _, hidden = lines[2][8].partition("show the arithmetic")
-        self.assertTrue(shown.startswith("S1 is full, 100 of 100: class 1 has 80 (line 1 80) and class 4 has 20 (line 2 20)"))
+        self.assertEqual(shown, "other gas of class 4 or higher goes first; S1 is full, 100 of 100")
         self.assertNotIn("tenth", shown)
         self.assertIn("of class 4 and tenth 5", hidden)
 
@@ -123,7 +123,7 @@ class Pages(ReportTest):
 
     def test_bumped_lines_are_marked(self) -> None:
         tables = Tables(self.page(TWO_LINES, TWO_LINES_ANSWER + "bumped,2,7,,,,,\n", TWO_LINES_TOLD))
-        self.assertEqual([row[8] for row in tables.rows["lines"]], ["bumped", "0", "7"])
+        self.assertEqual([row[8] for row in tables.rows["lines"]], ["bumped by", "0", "7"])
         self.assertEqual(tables.classes["lines"], ["", "", "m0 short m1 bumped"])
 
     def test_the_picture(self) -> None:

@@ -89,8 +89,10 @@ class Texts(ReportTest):
         out = self.report(TWO_LINES, TWO_LINES_ANSWER, TWO_LINES_TOLD)[0]
         self.assertIn("Line 1: R1 to D1, class 1: floor 0, confirmed 80, scheduled 80\n", out)
         self.assertIn("Line 2: R1 to D1, class 4: floor 0, confirmed 50, scheduled 20, short by 30\n"
-                      "    why: S1 is full, 100 of 100: class 1 has 80 (line 1 80) and class 4 has 20 (line 2 20); what is"
-                      " left goes to this line\n", out)
+                      "    why: other gas of class 4 or higher goes first; S1 is full, 100 of 100\n"
+                      "Exact reasons: 0 of 1 line with less than confirmed; all are bounds.\n\n"
+                      "Who shares what is full\n"
+                      "S1 is full, 100 of 100: class 1 has 80 (line 1 80) and class 4 has 20 (line 2 20)\n", out)
         self.assertIn("segment S1: 100 of 100, room 0 (full)\n", out)
         self.assertIn("receipt point R1: 100 of 1,000, room 900\n", out)
         self.assertNotIn("tenth", out)
@@ -103,21 +105,23 @@ class Texts(ReportTest):
 
     def test_a_reason_is_traced_through_a_pool(self) -> None:
         out = self.winter()
-        self.assertIn("why: by balance at pool MERGE-POOL: as much must leave as enters (16,751), and more could leave it only"
-                      " past what is full: TRUNK-1 is full, 80,000 of 80,000 (usually 100,000): class 1 has 53,000 (", out)
+        self.assertIn("why: other gas of class 4 or higher goes first; by balance at pool MERGE-POOL: as much must leave as"
+                      " enters (16,751), and more could leave it only past what is full: TRUNK-1 is full, 80,000 of 80,000"
+                      " (usually 100,000)\n", out)
         self.assertIn("pool MERGE-POOL: 16,751 in and 16,751 out\n", out)
 
     def test_gas_of_a_higher_class_goes_first(self) -> None:
-        """On TRUNK-1 line 11, of class 6, stands behind class 4, whose gas is the last that passes."""
+        """On TRUNK-1 gas of class 4, the last that passes, goes before line 11 of class 6."""
         out = self.winter()
         line = out.partition("Line 11: ")[2].partition("Line 12: ")[0]
-        self.assertIn("; gas of class 4 goes before gas of class 6\n", line)
+        self.assertIn("why: gas of class 4 or higher goes before gas of class 6; TRUNK-1 is full, 80,000 of 80,000", line)
 
     def test_what_a_line_gets_back(self) -> None:
         self.assertIn("in return, at MERGE-POOL, class 4 gas of tenth 8 would be let in\n", self.winter("--arithmetic"))
 
     def test_notes(self) -> None:
-        self.assertIn("A reason is one sufficient reason", self.winter())
+        self.assertIn("'Class N or higher' is a bound from the prices: class N, a class with a smaller number, or no schedule"
+                      " at all.\n", self.winter())
         for words in ("a shadow price and no money", "the tenths decide"):
             self.assertIn(words, self.winter("--arithmetic"))
             self.assertNotIn(words, self.winter())
