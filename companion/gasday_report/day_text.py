@@ -122,7 +122,7 @@ def round_rows(made: RoundFacts, clock: Clock, arithmetic: bool) -> Iterator[str
     if made.facts and made.facts.short_lines:
         yield f"  {exact_words(made.facts.short_lines, made.facts.exact_reasons)}"
         label = labels_of(made.lines)
-        yield from (f"  full: {sharing_words(sharing, label)}" for sharing in made.facts.sharings)
+        yield from (f"  {sharing_words(sharing, label)}" for sharing in made.facts.sharings)
 
 
 def cycle_rows(day: Day, arithmetic: bool) -> Iterator[str]:

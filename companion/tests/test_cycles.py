@@ -36,7 +36,7 @@ class Told(DayTest):
                       "      nominated 70, confirmed 70 (by silence, scheduled before: 70; OPR silent at the origin, OPD silent"
                       " at the destination), floor 0, scheduled 50, bumped by 20\n"
                       "      why: other gas of class 4 or higher goes first; S1 is full, 100 of 100\n", out)
-        self.assertIn("  full: S1 is full, 100 of 100: class 1 has 50 (line 2 SHIP FIRM 50) and class 4 has 50 (line 1 SHIP INT"
+        self.assertIn("  S1 is full, 100 of 100: class 1 has 50 (line 2 SHIP FIRM 50) and class 4 has 50 (line 1 SHIP INT"
                       " 50)\n", out)
         self.assertNotIn("tenth", out)
         self.assertIn("arithmetic: its next dekatherm, of class 4 and tenth 8, is worth just that", self.day("--arithmetic")[0])
