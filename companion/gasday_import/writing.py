@@ -9,10 +9,10 @@ from pathlib import Path
 from typing import IO
 
 
-def is_replaced(place: str) -> bool:
-    """Whether another file may take the place of what is there: of nothing, or of a regular file in a folder that can be
-    written. A device, a pipe or a socket has to stay what it is."""
-    return not os.path.exists(place) or (os.path.isfile(place) and os.access(os.path.dirname(place), os.W_OK))
+def is_replaced(path: str | Path, place: str) -> bool:
+    """Whether another file may take the place of what a path leads to: of nothing, or of a regular file in a folder that can be
+    written. A device, a pipe or a socket has to stay what it is; /dev/stdout may lead to a pipe, which has no place."""
+    return not os.path.exists(path) or (os.path.isfile(path) and os.access(os.path.dirname(place), os.W_OK))
 
 
 @contextmanager
@@ -22,7 +22,7 @@ def whole(path: str | Path, mode: int | None = None) -> Iterator[IO[bytes]]:
     place = os.path.realpath(path)
     if os.path.isdir(place):
         raise IsADirectoryError(errno.EISDIR, os.strerror(errno.EISDIR), str(path))
-    if not is_replaced(place):
+    if not is_replaced(path, place):
         with open(path, "wb") as file:
             yield file
         return
