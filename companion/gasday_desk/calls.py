@@ -4,26 +4,25 @@ import re
 from collections.abc import Mapping
 from dataclasses import dataclass
 
+from .forms import FIELDS as FIELDS
+from .forms import OF_PARTIES as OF_PARTIES
 from .journal import Maker
 from .keeper import Asked
 from .permissions import Viewer
-from .rows import Row, Unsafe, row_of
+from .rows import SAFE, Row, Unsafe, row_of
 from .view import DayView
 
 TOKEN = re.compile(r"[A-Za-z0-9_-]{8,64}")
-# The fields of each call behind its moment; what a user's party fills in has no field.
-FIELDS = {
-    "nominate": ("contract", "package", "origin", "destination", "quantity"),
-    "respond": ("line", "end", "quantity"),
-    "post": ("element", "capacity"),
-    "freeze": (), "settle": (), "skip": (),
-    "publish": ("round",), "declare": ("round",),
-    "waive": ("line",),
-}
-OF_PARTIES = ("nominate", "respond")
 GROUPS = {"publish": ("sched", "price"), "declare": ("inside",)}
 WORDS = ("end",)  # fields that are words, and not names
+QUANTITIES = ("quantity", "capacity")
+# A number as the pages show it, with commas between its thousands.
+GROUPED = re.compile(r"[1-9][0-9]{0,2}(,[0-9]{3})+")
 MOST_ROWS = 60_000
+
+
+WRONG_NUMBER = "is no whole number; write 1500 or 1,500 for one thousand five hundred"
+WRONG_NAME = "is no name; a name has 1 to 16 of A to Z, 0 to 9 and '-'"
 
 
 class Forbidden(Exception):
@@ -41,10 +40,24 @@ class Wish:
     kind: str
     fields: Mapping[str, str]
     group: str = ""  # rows that wait for it, as a text
+    is_repeat: bool = False  # whether its user says that it is a new call, though one lost its form that asks for the same
 
     def field(self, name: str) -> str:
+        """A field as it is sent. Letters of other alphabets stay as they are, so that none becomes one of A to Z."""
         text = self.fields.get(name, "").strip()
-        return text if name in WORDS else text.upper()
+        if name in QUANTITIES and GROUPED.fullmatch(text):
+            return text.replace(",", "")
+        if name in WORDS or not text.isascii():
+            return text
+        return text.upper()
+
+    def sent(self) -> tuple[str, ...]:
+        """Its fields, each of a form that can be sent."""
+        fields = tuple(self.field(name) for name in FIELDS[self.kind])
+        for name, text in zip(FIELDS[self.kind], fields, strict=True):
+            if not SAFE.fullmatch(text):
+                raise Unclear(f"the {name} {text[:40]!r} {WRONG_NUMBER if name in QUANTITIES else WRONG_NAME}")
+        return fields
 
 
 def check_permission(wish: Wish, viewer: Viewer, view: DayView) -> None:
@@ -70,8 +83,11 @@ def group_of(wish: Wish) -> tuple[Row, ...]:
         raise Unclear(f"{len(rows)} rows are too many, {MOST_ROWS} is the most")
     for row in rows:
         if row[0] not in GROUPS.get(wish.kind, ()):
-            raise Unclear(f"a row {row[0][:20]!r} can't stand before {wish.kind}")
-    return tuple(row_of(*row) for row in rows)
+            raise Unclear(f"{wish.kind} takes no row {row[0][:20]!r}")
+    try:
+        return tuple(row_of(*row) for row in rows)
+    except Unsafe as unsafe:
+        raise Unclear(str(unsafe)) from None
 
 
 def asked_of(wish: Wish, viewer: Viewer, view: DayView, token: str) -> Asked:
@@ -79,15 +95,10 @@ def asked_of(wish: Wish, viewer: Viewer, view: DayView, token: str) -> Asked:
     check_permission(wish, viewer, view)
     user = viewer.user
     assert user is not None
-    fields = tuple(wish.field(name) for name in FIELDS[wish.kind])
+    fields = wish.sent()
     if wish.kind in OF_PARTIES:
         fields = (user.party, *fields)
-    try:
-        asked = Asked(wish.kind, fields, Maker(user.name, user.role, user.party), token, group_of(wish))
-        asked.rows(0)
-    except Unsafe as unsafe:
-        raise Unclear(str(unsafe)) from None
-    return asked
+    return Asked(wish.kind, fields, Maker(user.name, user.role, user.party), token, group_of(wish), wish.is_repeat)
 
 
 def token_of(viewer: Viewer, token: str) -> str:

@@ -4,14 +4,17 @@ import argparse
 import getpass
 import os
 import sys
-from collections.abc import Sequence
+from collections.abc import Mapping, Sequence
+from dataclasses import replace
 from pathlib import Path
 
 from gasday_report.ending import ends_in_order
 
-from .people import LEAST_LETTERS, hash_of, new_token
+from .parties import check_party, meant
+from .passwords import check_password
+from .people import hash_of, new_token
 from .program import Failed
-from .settings import FOLDERS, PARTY, ROLES, USER, User, Wrong, users_of, write_users, write_whole
+from .settings import FOLDERS, PARTY, ROLES, USER, User, Wrong, change_users, users_of, write_whole
 
 DESCRIPTION = """A live office of gas days in the browser, on books that files keep. It decides nothing itself: each answer is
 that of the proved program `gasday`, shown once it is kept. The desk is not proved. docs/DESK.md says more.
@@ -49,7 +52,7 @@ def make_folder(path: Path, settings: str = SETTINGS) -> None:
     for name in FOLDERS:
         (path / name).mkdir(mode=0o750, parents=True, exist_ok=True)
     write_whole(path / "users.toml", b"", 0o600)
-    write_whole(path / "desk.toml", settings.encode(), 0o644)
+    write_whole(path / "desk.toml", settings.encode())
 
 
 def init(options: argparse.Namespace) -> int:
@@ -60,16 +63,30 @@ def init(options: argparse.Namespace) -> int:
     return 0
 
 
-def new_password(from_input: bool) -> str:
-    if from_input:
-        password = sys.stdin.readline().rstrip("\n")
-    else:
+def typed_password() -> str:
+    """A password from the terminal, typed twice."""
+    try:
         password = getpass.getpass("Password: ")
-        if getpass.getpass("Once more: ") != password:
-            raise Wrong("the two passwords differ")
-    if len(password) < LEAST_LETTERS:
-        raise Wrong(f"a password has {LEAST_LETTERS} letters at least")
+        again = getpass.getpass("Once more: ")
+    except (EOFError, OSError):
+        raise Wrong("there is no terminal to type a password at; give it on standard input with --stdin") from None
+    if again != password:
+        raise Wrong("the two passwords differ")
     return password
+
+
+def new_password(options: argparse.Namespace) -> str:
+    """The password of a user, from standard input or from the terminal."""
+    try:
+        password = sys.stdin.readline().rstrip("\r\n") if options.stdin else typed_password()
+    except UnicodeDecodeError:
+        raise Wrong("the password on standard input is not text in UTF-8") from None
+    check_password(password, options.name, options.party)
+    return password
+
+
+def with_article(role: str) -> str:
+    return f"{'an' if role[0] in 'aeiou' else 'a'} {role}"
 
 
 def add_user(options: argparse.Namespace) -> int:
@@ -77,33 +94,40 @@ def add_user(options: argparse.Namespace) -> int:
     if not USER.fullmatch(options.name) or not PARTY.fullmatch(options.party):
         raise Wrong("a user's name has small letters, digits, '.', '_' and '-'; a party's is 1 to 16 of A to Z, 0 to 9 and '-'")
     path = options.folder / "users.toml"
-    users = users_of(path)
-    users[options.name] = User(options.name, options.party, options.role, hash_of(new_password(options.stdin)))
-    write_users(path, users)
-    print(f"{options.name} is a {options.role} of {options.party}.")
+    users_of(path)  # a folder without users is reported before anybody types a password
+    if not options.unnamed:
+        check_party(options.folder, options.party, options.role)
+    user = User(options.name, options.party, options.role, hash_of(new_password(options)))
+    change_users(path, lambda users: users.update({user.name: user}))
+    print(f"{user.name} is {with_article(user.role)} of {user.party}.")
     return 0
 
 
+def known_user(users: Mapping[str, User], name: str) -> User:
+    if name not in users:
+        raise Wrong(f"there is no user {name}{meant(name, users)}; `gasday-desk user add` makes one")
+    return users[name]
+
+
 def add_token(options: argparse.Namespace) -> int:
-    path = options.folder / "users.toml"
-    users = users_of(path)
-    user = users.get(options.name)
-    if user is None:
-        raise Wrong(f"there is no user {options.name}; `gasday-desk user add` makes one")
     token, hashed = new_token()
-    users[user.name] = User(user.name, user.party, user.role, user.password, (*user.tokens, hashed))
-    write_users(path, users)
+
+    def add(users: dict[str, User]) -> None:
+        user = known_user(users, options.name)
+        users[user.name] = replace(user, tokens=(*user.tokens, hashed))
+
+    change_users(options.folder / "users.toml", add)
     print(token)
-    print("This token is shown once, and kept nowhere; it may do what its user may.", file=sys.stderr)
+    print("This token is shown once and stored nowhere. A program that has it may do what its user may.", file=sys.stderr)
     return 0
 
 
 def remove_user(options: argparse.Namespace) -> int:
-    path = options.folder / "users.toml"
-    users = users_of(path)
-    if users.pop(options.name, None) is None:
-        raise Wrong(f"there is no user {options.name}")
-    write_users(path, users)
+    """Takes a user away. The server sees it with the next request, and ends the user's streams within seconds."""
+    def remove(users: dict[str, User]) -> None:
+        del users[known_user(users, options.name).name]
+
+    change_users(options.folder / "users.toml", remove)
     return 0
 
 
@@ -123,6 +147,13 @@ def export(options: argparse.Namespace) -> int:
     return 0
 
 
+def rebuild(options: argparse.Namespace) -> int:
+    from .rebuild import rebuild as rebuild_all
+    for book, calls in rebuild_all(options.folder, options.gasday).items():
+        print(f"{book}: {calls} calls entered" if calls else f"{book}: desk.db has all its calls")
+    return 0
+
+
 def add_folder(parser: argparse.ArgumentParser) -> None:
     parser.add_argument("folder", type=Path, metavar="FOLDER", help="the folder of the desk")
 
@@ -135,6 +166,7 @@ def add_people(parser: argparse.ArgumentParser) -> None:
     added.add_argument("--party", required=True, help="the shipper or operator, or the pipeline's own name")
     added.add_argument("--role", required=True, choices=ROLES)
     added.add_argument("--stdin", action="store_true", help="read the password from standard input")
+    added.add_argument("--unnamed", action="store_true", help="take a party that no file of the pipelines names")
     added.set_defaults(do=add_user)
     for name, do, words in (("token", add_token, "make a token, by which a program comes as this user"),
                             ("remove", remove_user, "take a user away, with its tokens and sessions")):
@@ -161,6 +193,10 @@ def parser_of() -> argparse.ArgumentParser:
     shown.add_argument("--listen", default="127.0.0.1:8043", metavar="ADDRESS", help="else 127.0.0.1:8043")
     shown.set_defaults(do=demo)
     add_people(commands.add_parser("user", help="the users of a desk"))
+    again = commands.add_parser("rebuild", help="enter the calls of the books into a desk.db that was lost, or is an old copy")
+    add_folder(again)
+    again.add_argument("--gasday", metavar="PROGRAM")
+    again.set_defaults(do=rebuild)
     taken = commands.add_parser("export", help="a day's text, file, answers and reports in one archive, with hashes")
     add_folder(taken)
     taken.add_argument("day", metavar="DAY", help="the name of its book, as MAIN-20260115")

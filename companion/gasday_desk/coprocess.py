@@ -11,8 +11,9 @@ from collections.abc import Iterator, Sequence
 from pathlib import Path
 from typing import IO
 
+from .faults import told_words
 from .program import Busy, Failed
-from .rows import Row, lines_of, words_of
+from .rows import Row, lines_of
 
 # A pipe that is empty takes so much without waiting; more goes in from a thread of its own, since the program may wait for
 # its replies to be read meanwhile.
@@ -42,8 +43,8 @@ class Coprocess:
         if opened[0] != "opened":
             self.close()
             if opened[:3] == ("fault", "0", "Busy"):
-                raise Busy(f"{file.name} is held by another process")
-            raise Failed(f"{file.name} can't be opened: gasday day --book tells {words_of(opened)}")
+                raise Busy(f"another process has the file {file.name}: end that one, or wait until it has ended")
+            raise Failed(f"{file.name} can't be opened: {told_words(opened)}")
         self.calls = int(opened[2])
 
     def pipe_in(self) -> IO[bytes]:

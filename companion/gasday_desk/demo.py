@@ -186,7 +186,7 @@ def make_whole(folder: Path, program: str | None, listen: str) -> None:
 
 
 def run_demo(folder: Path, program: str | None, listen: str) -> int:
-    from .serving import log_to, serve
+    from .serving import log_to, report, serve
     kept = folder / "password"
     if (folder / "desk.toml").exists():
         if not kept.exists():
@@ -196,7 +196,7 @@ def run_demo(folder: Path, program: str | None, listen: str) -> int:
         make_whole(folder, program, listen)
     desk = Desk(folder, program=program)
     log_to(folder)
-    desk.wake()
+    report(desk.wake())
     host, port = desk.settings.host, desk.settings.port
     address = f"http://{host}:{port}/days/{next(iter(desk.books()))}"
 

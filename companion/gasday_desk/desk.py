@@ -16,12 +16,15 @@ from typing import IO
 
 from .alarms import look_at
 from .answers import CutShown, Shown, answer_of, contracted, cut_of, question_of, shown_of
+from .bounds import Bounds
 from .clock import Clock, Guard, Stopped
+from .faults import told_words
 from .journal import Journal, Maker
 from .keeper import Keeper, Refused
 from .people import Tries
 from .program import Failed, program_at, written
 from .rows import Row, words_of
+from .sessions import Sessions
 from .settings import FOLDERS, Folder, Pipeline, User, Wrong, settings_of, users_of, write_whole
 from .view import Round
 
@@ -30,6 +33,8 @@ BOOK = re.compile(r"[A-Z0-9-]{1,7}-[0-9]{8}")
 # So many answers of rounds are kept at hand; and a day that nobody has asked for so long is closed until somebody does.
 MOST_SHOWN = 24
 CLOSED_SECONDS = 3600.0
+# A book that couldn't be opened is not tried again for so long, so that it holds up nobody else's pages.
+FAILED_SECONDS = 3.0
 ALARM = Maker("alarm", "scheduler", "")
 
 
@@ -47,10 +52,12 @@ class Desk:
         self.secret = secret_of(self.folder)
         self.journal = Journal(self.folder.at("desk.db"))
         self.guard = Guard(self.clock, self.journal.keep_reason, self.journal.reason(), self.journal.last_moment())
-        self.tries = Tries(self.clock)
+        self.tries, self.sessions, self.bounds = Tries(self.clock), Sessions(self.journal, self.clock), Bounds()
         self.lock = threading.Lock()
         self.opening = threading.Lock()
         self.making = threading.RLock()
+        self.openings: dict[str, threading.Lock] = {}
+        self.failed: dict[str, tuple[Failed, float]] = {}
         self.keepers: dict[str, Keeper] = {}
         self.used: dict[str, float] = {}
         self.shown: OrderedDict[tuple[str, int, str], Shown | CutShown] = OrderedDict()
@@ -96,14 +103,31 @@ class Desk:
                 return self.keepers[book]
         if not BOOK.fullmatch(book) or not self.folder.book_file(book).is_file():
             return None
-        with self.opening:
-            with self.lock:
-                if book in self.keepers:
-                    return self.keepers[book]
+        with self.lock:
+            opening = self.openings.setdefault(book, threading.Lock())
+        with opening:
+            return self.opened(book)
+
+    def opened(self, book: str) -> Keeper:
+        """Opens a day, unless another thread has. One that can't be opened is not tried again for a few seconds."""
+        with self.lock:
+            if book in self.keepers:
+                return self.keepers[book]
+            failed, since = self.failed.get(book, (None, 0.0))
+            if failed and time.monotonic() < since + FAILED_SECONDS:
+                raise Failed(str(failed))
+        try:
             keeper = Keeper(self.program, self.folder.book_file(book), book, self.journal, self.guard, self.idle)
+        except Failed as error:
             with self.lock:
-                self.keepers[book], self.used[book] = keeper, self.clock.ticks()
-            return keeper
+                self.failed[book] = error, time.monotonic()
+            raise
+        if keeper.halted:
+            LOG.error("%s", keeper.halted)
+        with self.lock:
+            self.keepers[book], self.used[book] = keeper, self.clock.ticks()
+            self.failed.pop(book, None)
+        return keeper
 
     def pipeline_of(self, book: str) -> Pipeline | None:
         return next((one for one in self.settings.pipelines if book[:-9] == one.book), None)
@@ -116,11 +140,13 @@ class Desk:
         file = self.folder.book_file(book)
         with self.opening:
             if file.exists():
-                raise Refused(f"the gas day {date} of {pipeline.name} is open already")
+                raise Refused(f"the gas day {date} of {pipeline.name} is open already: it has the book {book}")
             told = self.program.make_book(file, self.opening_text(pipeline, date, book, carried))
-            if told[0] != "opened":
+            if told[0] == "opened":
+                file.chmod(0o640)
+            else:
                 file.unlink(missing_ok=True)
-                raise Refused(f"the gas day {date} of {pipeline.name} can't be opened: gasday tells {words_of(told)}")
+                raise Refused(f"the gas day {date} of {pipeline.name} can't be opened: {told_words(told)}")
         LOG.info("the book %s is made", book)
         return book
 
@@ -232,14 +258,18 @@ class Desk:
         with self.lock:
             return list(self.keepers.values())
 
-    def wake(self) -> None:
-        """Opens the books whose days aren't over, so that their alarms ring."""
+    def wake(self) -> list[str]:
+        """Opens the books whose days aren't over, so that their alarms ring; what is wrong with some of them."""
+        wrong = []
         for book in self.books():
             if book[-8:] >= time.strftime("%Y%m%d", time.gmtime(self.clock.now() - 2 * 86400)):
                 try:
-                    self.keeper(book)
+                    keeper = self.keeper(book)
+                    wrong += [keeper.halted] if keeper and keeper.halted else []
                 except Failed as failed:
                     LOG.error("the book %s can't be opened: %s", book, failed)
+                    wrong.append(f"the book {book} can't be opened: {failed}")
+        return wrong
 
     def close(self) -> None:
         """Ends after the calls at hand."""

@@ -13,6 +13,7 @@ from pathlib import Path
 from gasday_import.writing import whole as complete
 
 from .answers import answer_of, day_page, question_of, save, shown_of
+from .faults import told_words
 from .journal import Journal
 from .keeper import wanted_file
 from .program import BUSY_PAUSE, Failed, Kept, Program, program_at, written
@@ -93,7 +94,7 @@ def write_day(program: Program, journal: Journal, book: str, source: Path, folde
     audit = program.ask("audit", str(copy))
     (folder / "audit.csv").write_bytes(audit.out)
     if audit.first()[0] != "replayed":
-        raise Failed(f"{source} doesn't replay: gasday audit tells {words_of(audit.first())}")
+        raise Failed(f"{source} doesn't replay: {told_words(audit.first())}")
     kept = program.kept_by(copy)
     day = next(row for row in kept.opening if row[0] == "day")
     view = DayView(opening_of(kept.opening, program.ask("calendar", text=written([day])).rows()))
@@ -138,7 +139,7 @@ def export_day(path: Path, book: str, program: str | None, output: Path | None) 
             write_day(made, journal, book, folder.book_file(book), whole, settings.clock)
             close_files(whole)
             write_sums(whole)
-            with complete(target) as file, tarfile.open(fileobj=file, mode="w:gz") as archive:
+            with complete(target, 0o640) as file, tarfile.open(fileobj=file, mode="w:gz") as archive:
                 archive.add(whole, arcname=book)
     finally:
         journal.close()

@@ -6,12 +6,13 @@ no second nomination. What the book holds is for its file alone to say.
 
 import sqlite3
 import threading
-from collections.abc import Iterable, Iterator, Sequence
+from collections.abc import Iterable, Iterator, Mapping, Sequence
 from contextlib import contextmanager
 from dataclasses import dataclass, replace
 from pathlib import Path
 from typing import NamedTuple
 
+from .program import Failed
 from .rows import Row, lines_of, rows_in
 
 SENT, KEPT, FAULTY, LOST = "sent", "kept", "faulty", "lost"
@@ -24,6 +25,7 @@ CREATE UNIQUE INDEX IF NOT EXISTS numbered ON call (book, number) WHERE number I
 CREATE INDEX IF NOT EXISTS lost ON call (book) WHERE state = 'lost';
 CREATE TABLE IF NOT EXISTS guard (one INTEGER PRIMARY KEY CHECK (one = 1), reason TEXT NOT NULL);
 INSERT OR IGNORE INTO guard VALUES (1, '');
+CREATE TABLE IF NOT EXISTS session (id TEXT PRIMARY KEY, user TEXT NOT NULL, key TEXT NOT NULL, began INTEGER NOT NULL);
 """
 COLUMNS = "id, book, token, user, role, party, moment, rows, number, told, state"
 
@@ -34,6 +36,17 @@ class Maker(NamedTuple):
     user: str
     role: str
     party: str
+
+
+class Origin(NamedTuple):
+    """Where calls of a book come from that were made by no form of this journal. A form's token has a colon, and these none."""
+
+    token: str
+    user: str
+
+
+OTHERS = Origin("other.", "not by this desk")
+REBUILT = Origin("rebuilt.", "not known")
 
 
 @dataclass(frozen=True)
@@ -53,6 +66,11 @@ class Entry:
 
     def kept_as(self, number: int) -> "Entry":
         return replace(self, number=number, state=KEPT)
+
+    @property
+    def is_rebuilt(self) -> bool:
+        """Whether it was made of the book after the journal was lost, so that its form is not known."""
+        return self.token.startswith(REBUILT.token)
 
     def faulty(self, told: Iterable[Row]) -> "Entry":
         return replace(self, told=tuple(told), state=FAULTY)
@@ -74,10 +92,15 @@ class Journal:
 
     def __init__(self, path: Path) -> None:
         self.lock = threading.Lock()
-        self.file = sqlite3.connect(path, isolation_level=None, check_same_thread=False, timeout=20)
-        self.file.execute("PRAGMA journal_mode = WAL")
-        self.file.execute("PRAGMA synchronous = FULL")
-        self.file.executescript(SCHEMA)
+        try:
+            self.file = sqlite3.connect(path, isolation_level=None, check_same_thread=False, timeout=20)
+            self.file.execute("PRAGMA journal_mode = WAL")
+            self.file.execute("PRAGMA synchronous = FULL")
+            self.file.executescript(SCHEMA)
+            path.chmod(0o640)
+        except (sqlite3.Error, OSError) as error:
+            raise Failed(f"{path} can't be used: {error}. If it is damaged, move it away, and run `gasday-desk rebuild` on the"
+                         " folder") from None
 
     def close(self) -> None:
         with self.lock:
@@ -127,12 +150,32 @@ class Journal:
                 begun.append(replace(entry, id=cursor.lastrowid or 0))
         return begun
 
+    def adopt(self, book: str, calls: Mapping[int, tuple[Row, ...]], origin: Origin) -> dict[int, Entry]:
+        """Enters calls that the book has and this journal doesn't; the entries by the numbers of their calls."""
+        with self.transaction():
+            for number, rows in calls.items():
+                party = rows[-1][2] if rows[-1][0] in ("nominate", "respond") else ""
+                self.file.execute("INSERT INTO call (book, token, user, role, party, moment, rows, number, told, state)"
+                                  " VALUES (?, ?, ?, '', ?, ?, ?, ?, x'', 'kept')",
+                                  (book, f"{origin.token}{number}", origin.user, party, int(rows[-1][1]), lines_of(rows), number))
+        return {entry.number: entry for entry in self.of_book(book) if entry.number and entry.number in calls}
+
     def settle(self, entries: Sequence[Entry]) -> None:
         """Enters what became of calls that were sent. This isn't waited for to be on the disk: what a power cut takes of it is
         found in the book's file again."""
         with self.transaction("NORMAL"):
             self.file.executemany("UPDATE call SET number = ?, told = ?, state = ? WHERE id = ?",
                                   [(one.number, lines_of(one.told), one.state, one.id) for one in entries])
+
+    def read(self, words: str) -> list[tuple[object, ...]]:
+        """The records of a query of another table."""
+        with self.lock:
+            return list(self.file.execute(words))
+
+    def write(self, words: str, values: tuple[object, ...]) -> None:
+        """A change of another table, in a commit of its own."""
+        with self.transaction():
+            self.file.execute(words, values)
 
     @contextmanager
     def transaction(self, synchronous: str = "FULL") -> Iterator[None]:

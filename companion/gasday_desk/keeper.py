@@ -10,7 +10,7 @@ import logging
 import sqlite3
 import threading
 import time
-from collections.abc import Sequence
+from collections.abc import Callable, Iterable, Sequence
 from concurrent.futures import Future
 from dataclasses import dataclass, field
 from functools import partial
@@ -19,7 +19,7 @@ from typing import NamedTuple
 
 from .clock import Guard
 from .coprocess import Coprocess, Ended
-from .journal import KEPT, LOST, SENT, Entry, Journal, Maker, missing, resolved
+from .journal import KEPT, LOST, OTHERS, SENT, Entry, Journal, Maker, missing, resolved
 from .program import BUSY_PAUSE, BUSY_SECONDS, Busy, Failed, Program, written
 from .rows import Row, row_of
 from .view import Call, DayView, Opening, opening_of
@@ -27,9 +27,12 @@ from .view import Call, DayView, Opening, opening_of
 LOG = logging.getLogger("gasday_desk")
 # So many calls at most are entered and sent together.
 MOST_TOGETHER = 200
-# And so many at once of those that one asks for, so that a long file holds nobody up.
+# Of an upload's calls so many at most are sent together, and none where other calls wait: an upload holds nobody up.
 FEW = 50
 OPENINGS = 5
+# Calls that change something again if they are made twice with others between, with the number of their fields after the moment.
+# The state of the cycle keeps out the others.
+REPEATABLE = {"nominate": 6, "respond": 4, "post": 2, "waive": 1}
 LENT_SECONDS = 10.0
 LOOK_SECONDS = 0.5
 
@@ -42,6 +45,14 @@ class Resent(Refused):
     """A form came again with something else in it."""
 
 
+class Repeated(Resent):
+    """A call that is the same as one whose form was lost with the journal: it may be that very call."""
+
+    def __init__(self, number: int) -> None:
+        super().__init__(f"call {number} of the book asks for the same, and the journal lost by which form it was made. If this is"
+                         f" that call, it was made: see its receipt. If it is a new one, send it once more as a repeat")
+
+
 @dataclass(frozen=True)
 class Asked:
     """A call before it is made: its kind, its fields behind the moment, and the rows that wait for it."""
@@ -51,6 +62,12 @@ class Asked:
     maker: Maker
     token: str
     group: tuple[Row, ...] = ()
+    is_repeat: bool = False  # made once more, though a call with the same content lost its form
+
+    @property
+    def content(self) -> tuple[str, ...]:
+        """What the call asks for, without its moment."""
+        return (self.kind, *self.fields)
 
     def rows(self, moment: int) -> tuple[Row, ...]:
         return (*self.group, row_of(self.kind, moment, *self.fields))
@@ -73,6 +90,7 @@ class Job:
 
     asked: Asked | None
     done: "Future[Told]" = field(default_factory=Future)
+    is_bulk: bool = False  # a call of an upload
 
 
 class Keeper:
@@ -84,14 +102,20 @@ class Keeper:
         self.changed = threading.Condition(self.lock)
         self.version = 0
         self.jobs: list[Job] = []
+        self.bulk: list[Job] = []
         self.waiting = threading.Condition()
         self.is_ending = False
         self.run: Coprocess | None = None
         self.text = b""  # what the file kept at the last turn
         self.text_calls = -1
         self.entries: dict[int, Entry] = {}
+        self.formless: dict[tuple[str, ...], int] = {}  # calls that lost their form, by what they ask for
+        self.unknown = 0  # how many calls of the book the journal doesn't have
+        self.is_open = False
+        self.file_id = file_id(file)  # of the file that the program has open
         self.view: DayView
         self.read_again()
+        self.is_open = True
         self.thread = threading.Thread(target=self.serve, name=f"book {book}", daemon=True)
         self.thread.start()
 
@@ -101,12 +125,16 @@ class Keeper:
         """Makes a call and waits for its answer. One whose form was answered already is told as it was."""
         return self.call_all([asked])[0]
 
-    def call_all(self, several: Sequence[Asked]) -> list[Told]:
+    def call_all(self, several: Sequence[Asked], is_bulk: bool = False, check: Callable[[], None] = lambda: None) -> list[Told]:
+        """Makes calls in their order. The check is made before each few of them, and ends them where it fails."""
         told = []
         for asked in several:
-            asked.rows(0)  # a field that can't be sent is told before anything is
+            asked.rows(0)  # a field that can't be sent is reported before anything is
+            if len(several) > 1:
+                self.known(asked)
         for at in range(0, len(several), FEW):
-            jobs = [self.known(asked) or self.put(Job(asked)) for asked in several[at:at + FEW]]
+            check()
+            jobs = [self.known(asked) or self.put(Job(asked, is_bulk=is_bulk)) for asked in several[at:at + FEW]]
             told += [job if isinstance(job, Told) else job.done.result() for job in jobs]
         return told
 
@@ -114,6 +142,8 @@ class Keeper:
         """What became of a form's call, where it is kept. A form that came with something else then is told so."""
         entry = self.journal.find(self.book, asked.token)
         if entry is None or entry.state != KEPT:
+            if entry is None and not asked.is_repeat and asked.content in self.formless:
+                raise Repeated(self.formless[asked.content])
             return None
         if entry.rows != asked.rows(entry.moment):
             raise Resent(f"this form was sent already, as call {entry.number}, with something else in it; open a new one")
@@ -136,9 +166,17 @@ class Keeper:
         with self.waiting:
             if self.is_ending:
                 raise Refused("the desk is ending; the call was not sent, try again once it runs")
-            self.jobs.append(job)
+            (self.bulk if job.is_bulk else self.jobs).append(job)
             self.waiting.notify()
         return job
+
+    def next_jobs(self) -> list[Job]:
+        """The jobs that are done together now: those of uploads only where a scheduler's call doesn't wait."""
+        jobs, self.jobs = self.jobs[:MOST_TOGETHER], self.jobs[MOST_TOGETHER:]
+        if not self.jobs and not any(job.asked and job.asked.maker.role == "scheduler" for job in jobs):
+            more, self.bulk = self.bulk[:FEW], self.bulk[FEW:]
+            jobs += more
+        return jobs
 
     def close(self) -> None:
         """Ends after the calls at hand."""
@@ -155,9 +193,9 @@ class Keeper:
         rested = time.monotonic()
         while True:
             with self.waiting:
-                if not self.jobs and not self.is_ending:
+                if not self.jobs and not self.bulk and not self.is_ending:
                     self.waiting.wait(min(self.idle, LOOK_SECONDS))
-                jobs, self.jobs = self.jobs[:MOST_TOGETHER], self.jobs[MOST_TOGETHER:]
+                jobs = self.next_jobs()
                 is_over = self.is_ending and not jobs
             if jobs:
                 self.do(jobs)
@@ -207,7 +245,11 @@ class Keeper:
         fresh = self.unanswered(jobs)
         if not fresh:
             return
+        if self.unknown:
+            self.refuse(fresh, Refused(self.halted))
+            return
         run = self.opened()
+        self.check_file()
         try:
             moment = self.guard.moment()
         except Exception as error:
@@ -228,10 +270,25 @@ class Keeper:
         except Ended:
             LOG.warning("book %s: the program ended, and the file is opened again", self.book)
             return self.resolve(entries)
+        self.check_file()
         if any(entry.state == SENT for entry in settled):
             return self.resolve(entries)
         self.note(settled)
         return settled
+
+    @property
+    def halted(self) -> str:
+        """Why no call of this book is made until the journal is rebuilt; nothing where it is whole."""
+        if not self.unknown:
+            return ""
+        return (f"desk.db lacks {self.unknown} of the calls of {self.book}, so the desk would not recognize a form or key that comes"
+                " again. End the desk and run `gasday-desk rebuild` on its folder")
+
+    def check_file(self) -> None:
+        """Fails where the book's file was taken away or replaced: what the program commits then is in no file of that name."""
+        if file_id(self.file) != self.file_id:
+            self.drop()
+            raise Failed(f"the file {self.file.name} was taken away or replaced while the program had it open; bring it back")
 
     def unanswered(self, jobs: Sequence[Job]) -> list[Job]:
         """The jobs whose form hasn't been answered meanwhile; a form that stands twice among them is sent once."""
@@ -304,12 +361,17 @@ class Keeper:
         if found:
             self.journal.settle(found)
         by_id = {one.id: one for one in [*entries, *found]}
-        made = {one.number: one for one in by_id.values() if one.state == KEPT and one.number}
+        made: dict[int, Entry] = {one.number: one for one in by_id.values() if one.state == KEPT and one.number}
+        strange = {number: tuple(rows) for number, rows in enumerate(kept.calls, 1) if number not in made}
+        if strange and self.is_open and not self.unknown:
+            made.update(self.journal.adopt(self.book, strange, OTHERS))
+            strange = {}
         for number, (rows, told) in enumerate(zip(kept.calls, kept.told, strict=True), 1):
             # A settled cycle stands in the file as what it came to, and is shown as it was asked.
             view.add(made[number].rows if number in made else rows, told)
         with self.changed:
-            self.view, self.entries = view, made
+            self.view, self.entries, self.unknown = view, made, len(strange)
+            self.formless = formless_of(made.values())
             self.text, self.text_calls = kept.text, len(kept.calls)
             self.version += 1
             self.changed.notify_all()
@@ -335,8 +397,12 @@ class Keeper:
         """A program that has the file; who else has it is waited for."""
         until = time.monotonic() + BUSY_SECONDS
         while True:
+            if not self.file.is_file():
+                raise Failed(f"the file {self.file.name} is gone; bring it back")
             try:
-                return Coprocess(self.program.path, self.file)
+                run = Coprocess(self.program.path, self.file)
+                self.file_id = file_id(self.file)
+                return run
             except Busy:
                 if time.monotonic() > until:
                     raise
@@ -359,6 +425,25 @@ class Keeper:
         if self.run:
             self.run.process.kill()
         self.give_back()
+
+
+def file_id(file: Path) -> tuple[int, int] | None:
+    """What tells a file apart from another one of its name; none where there is no file."""
+    try:
+        found = file.stat()
+    except OSError:
+        return None
+    return found.st_dev, found.st_ino
+
+
+def formless_of(entries: Iterable[Entry]) -> dict[tuple[str, ...], int]:
+    """The calls that lost their form with the journal, by what they ask for."""
+    found = {}
+    for entry in entries:
+        row = entry.rows[-1]
+        if entry.is_rebuilt and row[0] in REPEATABLE:
+            found[(row[0], *row[2:2 + REPEATABLE[row[0]]])] = entry.number or 0
+    return found
 
 
 def wanted_file(book: Path) -> Path:

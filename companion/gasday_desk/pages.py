@@ -1,26 +1,30 @@
 """The pages. Each table stands at its page's address, and with .csv or .json behind it."""
 
+import logging
 from collections.abc import Callable, Mapping
 from typing import Any, TypeAlias
 
-from flask import Blueprint, Response, g, jsonify, redirect, render_template, request, session, url_for
+from flask import Blueprint, Response, g, jsonify, redirect, render_template, request, url_for
 from werkzeug.wrappers import Response as Answer
 
 from . import tables
 from .alarms import reminders
 from .calls import FIELDS, Forbidden, Unclear, Wish, asked_of, token_of
-from .keeper import Keeper, Told
+from .entry import change_password, end_session, log_in, still_here, take
+from .keeper import Keeper, Refused, Told
 from .moments import day_of, next_day, shown
+from .program import Failed
 from .rows import words_of
 from .tables import Cell, Table
 from .tomorrow import carried_rows
 from .uploads import answers_of_upload
 from .view import CYCLES, DayView
-from .web import REPORT_POLICY, Missing, View, day, desk, log_in, page, viewer
+from .web import REPORT_POLICY, Missing, View, day, desk, page, viewer
 
+LOG = logging.getLogger("gasday_desk")
 PAGES = Blueprint("pages", __name__)
 ENDINGS = ("", ".csv", ".json")
-MOST_SHOWN = 300  # rows of a table on a page; its CSV has all
+MOST_SHOWN, MOST_ANSWERS = 300, 20_000  # rows of a table on a page; its CSV has all
 Made: TypeAlias = str | Answer
 
 
@@ -56,7 +60,7 @@ def answered(table: Table, template: str = "table.html", **more: Any) -> Made:
 def of_day(keeper: Keeper) -> dict[str, Any]:
     """What each page of a day shows at its top."""
     view = keeper.view
-    return {"book": keeper.book, "view": view, "cycles": CYCLES, "version": keeper.version}
+    return {"book": keeper.book, "view": view, "cycles": CYCLES, "version": keeper.version, "halted": keeper.halted}
 
 
 # Who comes.
@@ -80,8 +84,19 @@ def is_own_address(address: str) -> bool:
 @PAGES.route("/logout", methods=["POST"])
 @page("home")
 def logout() -> Made:
-    session.clear()
+    end_session()
     return redirect(url_for("pages.login"), 303)
+
+
+@PAGES.route("/password", methods=["GET", "POST"])
+@page("home")
+def password() -> Made:
+    """Each user may have another password; its other sessions end then."""
+    words, is_changed = "", False
+    if request.method == "POST":
+        words = change_password(*(request.form.get(name, "") for name in ("old", "new", "again")))
+        is_changed = not words
+    return Response(render_template("password.html", words=words, is_changed=is_changed), 400 if words else 200)
 
 
 @PAGES.route("/clock", methods=["POST"])
@@ -156,14 +171,19 @@ def call_and_show(keeper: Keeper, wish: Wish) -> Made:
 
 def shown_call(keeper: Keeper, told: Told) -> Made:
     if told.call is None:
-        words = "; ".join(map(words_of, told.told)) or "the file does not keep it; send the form again"
-        return Response(render_template("message.html", status=422, words=f"The call was not taken: {words}",
-                                        faults=told.told, **of_day(keeper)), 422)
+        words = f"The call was not taken: {tables.answer_words(keeper.view, viewer(), told, desk().settings.clock)}."
+        return Response(render_template("message.html", status=422, words=words, faults=told.told, **of_day(keeper)), 422)
     return redirect(url_for("pages.receipt", book=keeper.book, number=told.call.number), 303)
 
 
 def wish_of(kind: str) -> Wish:
-    return Wish(kind, {name: request.form.get(name, "") for name in FIELDS[kind]}, request.form.get("rows", ""))
+    fields = {name: request.form.get(name, "") for name in FIELDS[kind]}
+    return Wish(kind, fields, request.form.get("rows", ""), is_repeat())
+
+
+def is_repeat() -> bool:
+    """Whether a form says that it is a new call, though one that lost its form asks for the same."""
+    return request.form.get("repeat") == "yes"
 
 
 @PAGES.route("/days/<book:book>/call/<kind>", methods=["POST"])
@@ -192,22 +212,36 @@ def nominate(book: str) -> Made:
 @page("lines")
 def upload(book: str) -> Made:
     """A file of calls, through the importer; each row is answered by itself."""
+    if not (viewer().may_call("nominate") or viewer().may_call("respond")):
+        raise Forbidden(f"the role {viewer().role} may not upload calls")
     keeper = day(book)
     file = request.files.get("file")
     data = file.read() if file else b""
     token = token_of(viewer(), request.form.get("form", ""))
-    answers_of_upload(desk(), keeper, viewer(), data, token)
+    release = take("uploads")
+    try:
+        answers_of_upload(desk(), keeper, viewer(), data, token, check_is_here(still_here()))
+    finally:
+        release()
     return redirect(url_for("pages.answers", book=book, token=request.form["form"]), 303)
+
+
+def check_is_here(is_good: Callable[[], bool]) -> Callable[[], None]:
+    """A check that fails once the session or token of an upload has ended, as where its user was removed."""
+    def check() -> None:
+        if not is_good():
+            raise Forbidden("your session has ended; the rest of the file was not sent")
+    return check
 
 
 @PAGES.route("/days/<book:book>/answers/<token>")
 @page("lines")
 def answers(book: str, token: str) -> Made:
-    """What the calls of a form with several were told."""
+    """What became of the calls of a form with several."""
     keeper = day(book)
-    entries = keeper.journal.of_form(book, token_of(viewer(), token))
-    return render_template("answers.html", **of_day(keeper), answers=[(entry, keeper.told_of(entry)) for entry in entries],
-                           words_of=words_of)
+    told = [keeper.told_of(entry) for entry in keeper.journal.of_form(book, token_of(viewer(), token))]
+    return render_template("answers.html", **of_day(keeper), most=MOST_ANSWERS,
+                           table=tables.answer_table(keeper.view, viewer(), told, desk().settings.clock))
 
 
 @tabled("/days/<book:book>/confirm", "confirmations")
@@ -239,7 +273,8 @@ def responses_of(view: DayView, form: Mapping[str, str]) -> list[tuple[str, Wish
         kind, _, rest = name.partition(" ")
         if kind == "quantity" and quantity.strip():
             line, _, end = rest.partition(" ")
-            found.append((f"{line}-{end}", Wish("respond", {"line": line, "end": end, "quantity": quantity})))
+            wish = Wish("respond", {"line": line, "end": end, "quantity": quantity}, is_repeat=is_repeat())
+            found.append((f"{line}-{end}", wish))
     return found
 
 
@@ -252,7 +287,7 @@ def silent_ends(view: DayView, seen: str) -> list[tuple[str, Wish]]:
         nomination = view.lines[int(row[0] or 0) - 1].nominated(view.cycle, int(seen))
         if row[-1] == "silent" and nomination:
             wish = {"line": str(row[0]), "end": str(row[5]), "quantity": str(nomination.quantity)}
-            found.append((f"{row[0]}-{row[5]}", Wish("respond", wish)))
+            found.append((f"{row[0]}-{row[5]}", Wish("respond", wish, is_repeat=is_repeat())))
     return found
 
 
@@ -379,18 +414,30 @@ def text(book: str) -> Made:
 
 @tabled("/public", "public")
 def public() -> Made:
-    """The public page: of each pipeline's latest day constraints and room, and nothing of anybody's gas."""
+    """The public page: of each pipeline's latest day constraints and room, and nothing of anybody's gas. A pipeline whose book
+    can't be opened doesn't keep the others from being shown."""
     books: dict[str, str] = {}
     for book in desk().books():
         books.setdefault(book[:-9], book)
     table = Table("public", "Constraints and unsubscribed room", [])
-    parts = []
+    parts, missing = [], []
     for book in books.values():
-        keeper = day(book)
-        view = keeper.view
-        one = view.in_effect()
-        part = tables.public_table(view, desk().answer(keeper, one), desk().contracted(keeper))
-        parts.append((book, view.opening.date, CYCLES[one.cycle] if one else "", part))
+        try:
+            parts.append(public_part(book))
+        except (Failed, Refused) as error:
+            LOG.error("the public page lacks %s: %s", book, error)
+            missing.append(book)
+            continue
+        _, date, cycle, part = parts[-1]
         table.columns = tables.columns("book", "date gas day", "cycle") + part.columns
-        table.rows += [[book, view.opening.date, CYCLES[one.cycle] if one else "", *row] for row in part.rows]
-    return answered(table, "public.html", parts=parts)
+        table.rows += [[book, date, cycle, *row] for row in part.rows]
+    return answered(table, "public.html", parts=parts, missing=missing)
+
+
+def public_part(book: str) -> tuple[str, str, str, Table]:
+    """What the public page shows of a book."""
+    keeper = day(book)
+    view = keeper.view
+    one = view.in_effect()
+    part = tables.public_table(view, desk().answer(keeper, one), desk().contracted(keeper))
+    return book, view.opening.date, CYCLES[one.cycle] if one else "", part

@@ -11,9 +11,10 @@ from .clock import Clock
 
 # The form that werkzeug has for scrypt: scrypt:N:r:p$salt$hash. Its version in Debian 12 doesn't know it yet.
 COST, BLOCK, PARALLEL = 2**15, 8, 1
-LEAST_LETTERS = 10
-# Five wrong passwords a minute, for a user and for an address.
-TRIES, TRIES_SECONDS, ADDRESS_TRIES = 5, 60.0, 20
+# So many wrong passwords a minute: for a user at an address, for a user at all addresses, and for an address. The last is high,
+# since all users of a company may come from one address: the tries of one of them must not keep the others out.
+TRIES_SECONDS = 60.0
+PAIR_TRIES, USER_TRIES, ADDRESS_TRIES = 5, 20, 100
 MOST_NAMES = 10_000
 # What no password has, so that an unknown user takes as long as a known one.
 NOBODY = f"scrypt:{COST}:{BLOCK}:{PARALLEL}$nobody$" + "0" * 128
@@ -50,6 +51,11 @@ def token_hash(token: str) -> str:
     return hashlib.sha256(token.encode()).hexdigest()
 
 
+def limits_of(user: str, address: str) -> dict[str, int]:
+    """Under which names a try counts, and how many of each there may be."""
+    return {f"pair {user} {address}": PAIR_TRIES, f"user {user}": USER_TRIES, f"address {address}": ADDRESS_TRIES}
+
+
 @dataclass
 class Tries:
     """The wrong passwords of the last minute, by user and by address. At most so many names are remembered."""
@@ -61,16 +67,16 @@ class Tries:
     def may_try(self, user: str, address: str) -> bool:
         """Whether another password may be tried; it counts as a wrong one until it is found right."""
         with self.lock:
-            names = ((f"user {user}", TRIES), (f"address {address}", ADDRESS_TRIES))
-            if any(len(self.recent(name)) >= most for name, most in names):
+            names = limits_of(user, address)
+            if any(len(self.recent(name)) >= most for name, most in names.items()):
                 return False
-            for name, _ in names:
+            for name in names:
                 self.recent(name).append(self.clock.ticks())
             return True
 
     def was_right(self, user: str, address: str) -> None:
         with self.lock:
-            for name in (f"user {user}", f"address {address}"):
+            for name in limits_of(user, address):
                 if self.recent(name):
                     self.recent(name).pop()
 

@@ -11,6 +11,7 @@ from dataclasses import dataclass
 from pathlib import Path
 from typing import NamedTuple
 
+from .faults import told_words
 from .rows import CALLS, WAITING, Row, groups_of, rows_in, told_groups_of, words_of
 
 BUILT = Path(__file__).resolve().parents[2] / "crates" / "gasday" / "out" / "gasday"
@@ -69,9 +70,9 @@ class Program:
             if answer.status == 0:
                 return answer.out
             if answer.first()[:3] != ("fault", "0", "Busy"):
-                raise Failed(f"{file.name} can't be read as a book: gasday text tells {words_of(answer.first())}")
+                raise Failed(f"{file.name} can't be read as a book: {told_words(answer.first())}")
             if time.monotonic() > until:
-                raise Busy(f"{file.name} is held by another process; end that one, and try again")
+                raise Busy(f"another process has the file {file.name}; end that one, and try again")
             time.sleep(BUSY_PAUSE)
 
     def kept_by(self, file: Path, seconds: float = BUSY_SECONDS) -> Kept:

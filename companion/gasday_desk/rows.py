@@ -16,7 +16,7 @@ SAFE = re.compile(r"[A-Za-z0-9-]{0,64}")
 
 
 class Unsafe(ValueError):
-    """A field that can't stand in a live row."""
+    """A field that no row of a call can have."""
 
 
 def row_of(*fields: str | int) -> Row:
@@ -24,7 +24,7 @@ def row_of(*fields: str | int) -> Row:
     row = tuple(map(str, fields)) + ("",) * (FIELDS - len(fields))
     for field in row:
         if not SAFE.fullmatch(field):
-            raise Unsafe(f"'{field[:40]}' may have letters, digits and '-' alone, and 64 of them at most")
+            raise Unsafe(f"{field[:40]!r} is no field of a row; it may have A to Z, 0 to 9 and '-', and 64 of them at most")
     if len(row) != FIELDS:
         raise Unsafe(f"a row has {FIELDS} fields, not {len(row)}")
     return row

@@ -15,8 +15,8 @@ from .desk import Desk
 from .program import Failed
 from .web import MOST_BYTES, app_of
 
-# Each page that is told of changes has a thread for itself, see interface.MOST_STREAMS.
-THREADS = 96
+# More than `bounds.BOUNDS` lets all requests and streams have together, so that a scheduler's request finds a thread free.
+THREADS = 320
 CONNECTIONS = 1000
 LOG_BYTES, LOG_FILES = 10_000_000, 10
 
@@ -58,10 +58,16 @@ def serve(desk: Desk, host: str, port: int, ready: Callable[[], None]) -> None:
         server.close()
 
 
+def report(wrong: list[str]) -> None:
+    """Prints what is wrong with some books; the server serves the others."""
+    for words in wrong:
+        print(f"gasday-desk: {words}", file=sys.stderr, flush=True)
+
+
 def run_desk(folder: Path, program: str | None) -> int:
     desk = Desk(folder, program=program)
     log_to(folder)
-    desk.wake()
+    report(desk.wake())
     settings = desk.settings
     serve(desk, settings.host, settings.port, lambda: print(f"The desk of {folder} is http://{settings.host}:{settings.port}/",
                                                             file=sys.stderr, flush=True))

@@ -1,9 +1,12 @@
 """The settings of a desk: `desk.toml`, and its users in `users.toml`, in one folder with all that it keeps."""
 
+import fcntl
 import json
+import os
 import re
 import tomllib
-from collections.abc import Mapping
+from collections.abc import Callable, Iterator, Mapping
+from contextlib import contextmanager
 from dataclasses import dataclass, field
 from pathlib import Path
 from typing import Any
@@ -194,7 +197,36 @@ def write_users(path: Path, users: Mapping[str, User]) -> None:
     write_whole(path, "\n".join(parts).encode(), 0o600)
 
 
-def write_whole(path: Path, data: bytes, mode: int = 0o644) -> None:
-    """Writes a file whole or not at all."""
+@contextmanager
+def locked(path: Path) -> Iterator[None]:
+    """Holds the lock of this file, which is made if it is not there; other processes and threads wait for it."""
+    with open(os.open(path, os.O_RDWR | os.O_CREAT, 0o600), "rb") as file:
+        give_to_owner(file.fileno(), path.parent)
+        fcntl.flock(file, fcntl.LOCK_EX)
+        yield
+
+
+def give_to_owner(number: int, like: Path) -> None:
+    """What root makes belongs to the owner of the folder, or of the file that it replaces, so that the server can read it."""
+    if os.geteuid() == 0:
+        owner = like.stat()
+        os.fchown(number, owner.st_uid, owner.st_gid)
+
+
+def change_users(path: Path, change: Callable[[dict[str, User]], None]) -> None:
+    """Reads the users, changes them and replaces the file, with one lock around all three. So no change is lost."""
+    try:
+        with locked(path.with_name("users.lock")):
+            users = users_of(path)
+            change(users)
+            write_users(path, users)
+    except OSError as error:
+        raise Wrong(f"{error.filename or path} can't be written: {error.strerror}") from None
+
+
+def write_whole(path: Path, data: bytes, mode: int = 0o640) -> None:
+    """Writes a file whole or not at all, with this mode whatever the umask is."""
     with whole(path, mode) as file:
+        os.fchmod(file.fileno(), mode)
+        give_to_owner(file.fileno(), path if path.exists() else path.parent)
         file.write(data)

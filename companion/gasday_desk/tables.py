@@ -2,17 +2,20 @@
 
 import csv
 import io
-from collections.abc import Iterator, Mapping
+from collections import Counter
+from collections.abc import Iterator, Mapping, Sequence
 from dataclasses import dataclass, field
 from typing import Any
 
 from gasday_report.day import asked_words, told_words
 
 from .answers import CutShown, Shown
+from .faults import fault_words, is_fault
 from .journal import Entry
+from .keeper import Told
 from .moments import shown, span
 from .permissions import Viewer
-from .rows import sha256_of, words_of
+from .rows import Row, sha256_of, words_of
 from .tomorrow import carried_rows
 from .view import CYCLES, ENDS, Call, DayView, Line, Times
 
@@ -277,9 +280,30 @@ def told_of(call: Call, viewer: Viewer) -> str:
     return head.removesuffix(", nothing scheduled") if not rest else head
 
 
+def hint_of(view: DayView, call: Call, zone: str) -> str:
+    """What a refusal leaves open: how much a line may have, or when a freeze may come. The facts are the opening's and those of
+    replies; the program alone decides what it takes."""
+    if not call.is_refused:
+        return ""
+    why = call.told[0][3]
+    if why == "OverContract" and call.left is not None:
+        contract = call.row[3]
+        return (f"{contract} has {view.opening.contracts[contract].quantity:,}; its other lines leave {max(0, call.left):,} for this"
+                " one")
+    if why == "TooEarly" and call.cycle in view.opening.times:
+        return f"{CYCLES[call.cycle]} may be frozen from {shown(view.opening.times[call.cycle].confirmed, zone)} on"
+    if why == "DayClosed":
+        return f"the last nominations were due at {shown(view.opening.times[len(CYCLES)].received, zone)}"
+    return ""
+
+
+def told_with_hint(view: DayView, call: Call, viewer: Viewer, zone: str) -> str:
+    return ". ".join(filter(None, (told_of(call, viewer), hint_of(view, call, zone))))
+
+
 def call_table(view: DayView, viewer: Viewer, entries: Mapping[int, Entry], zone: str, most: int | None = None) -> Table:
     """All calls that are to be seen, or the last of them."""
-    table = Table("calls", "Calls", columns(">call", "moment", "user", "role", "party", "kind", "asked", "told", "event",
+    table = Table("calls", "Calls", columns(">call", "moment", "user", "role", "party", "kind", "asked", "told answer", "event",
                                             "cycle"))
     seen = [call for call in list(view.calls) if viewer.sees_call(view, call)]
     for call in seen[-most:] if most else seen:
@@ -288,36 +312,71 @@ def call_table(view: DayView, viewer: Viewer, entries: Mapping[int, Entry], zone
         maker = entries[call.number].maker if call.number in entries else ("not by this desk", "", "")
         cycle = call.told[0][2] if call.told[0][0] in ("accepted", "frozen", "published", "declared") else ""
         table.rows.append([call.number, shown(call.moment, zone), *maker, call.kind, call_words(call),
-                           told_of(call, viewer), call.event, cycle])
+                           told_with_hint(view, call, viewer, zone), call.event, cycle])
     return table
 
 
-def detail_rows(view: DayView, viewer: Viewer, call: Call) -> list[str]:
-    """The rows that a call was told, less those of other parties' lines."""
-    rows = []
-    for row in call.told:
-        if row[0] in ("bound", "sched", "bumped") and not viewer.sees_all("calls"):
-            line = view.line(int(row[1]))
-            if line is None or not viewer.sees_line(view, line, "schedule"):
-                continue
-        if row[0] == "total" and not viewer.sees_all("calls"):
-            continue
-        rows.append(words_of(row))
-    return rows
+def asked_of_row(row: Row) -> str:
+    """What a row asks for, in words; of a faulty one whose fields say nothing the row itself."""
+    try:
+        return asked_words(list(row))
+    except (KeyError, IndexError):
+        return words_of(row)
+
+
+def answer_state(told: Told) -> str:
+    if told.call is None:
+        return "faulty" if told.told else "not stored"
+    return "refused" if told.call.is_refused else "accepted"
+
+
+def answer_words(view: DayView, viewer: Viewer, told: Told, zone: str) -> str:
+    """What became of a call, in words."""
+    if told.call:
+        return told_with_hint(view, told.call, viewer, zone)
+    asked = told.entry.rows[-1]
+    faults = [fault_words(row, asked) for row in told.told if is_fault(row)]
+    return "; ".join(faults) or "the file does not have it; send the form again"
+
+
+def answer_table(view: DayView, viewer: Viewer, answers: Sequence[Told], zone: str) -> Table:
+    """What became of the calls of a form with several, in their order."""
+    table = Table("answers", "Answers", columns(">call", "state", "asked", "told answer"))
+    for one in answers:
+        state = answer_state(one)
+        if state != "accepted":
+            table.marks[len(table.rows)] = "refused"
+        number = one.call.number if one.call else None
+        table.rows.append([number, state, asked_of_row(one.entry.rows[-1]), answer_words(view, viewer, one, zone)])
+    counts = Counter(str(row[1]) for row in table.rows)
+    table.note = ", ".join(f"{count:,} {state}" for state, count in counts.items())
+    return table
+
+
+def sees_row(view: DayView, viewer: Viewer, row: Row) -> bool:
+    """Whether a row of a reply may be shown: those of lines to whoever sees the line, totals to those who see all calls."""
+    if viewer.sees_all("calls"):
+        return True
+    if row[0] in ("bound", "sched", "bumped"):
+        line = view.line(int(row[1]))
+        return line is not None and viewer.sees_line(view, line, "schedule")
+    return row[0] != "total"
 
 
 def receipt_of(view: DayView, viewer: Viewer, call: Call, entry: Entry | None, zone: str) -> dict[str, Any]:
-    """What whoever made a call may keep of it. The hashes are of the lines as they were sent and told, each with its line
-    feed; `gasday text FILE | gasday day` tells the same once more."""
+    """What the reader may keep of a call. The hashes are of the rows that are shown and of no others, each with its line feed:
+    a hash of hidden rows would let the reader search for what is in them. `gasday text FILE | gasday day` prints the same rows."""
     maker = entry.maker if entry else ("not by this desk", "", "")
     told = call.told[0]
     cycle = int(told[2]) if told[0] in ("accepted", "frozen", "published", "declared") else None
+    asked = call.rows if viewer.sees_all("calls") else (call.row,)
+    reply = [row for row in call.told if sees_row(view, viewer, row)]
     return {
         "book": view.opening.book, "call": call.number, "event": call.event, "kind": call.kind,
         "moment": call.moment, "time": shown(call.moment, zone), "user": maker[0], "role": maker[1],
         "party": maker[2], "cycle": cycle, "cycle_name": CYCLES.get(cycle or 0, ""), "line": call.line,
         "accepted": not call.is_refused,
-        "asked": call_words(call), "told": told_of(call, viewer), "row": words_of(call.row),
-        "reply": detail_rows(view, viewer, call), "sha256_of_rows": sha256_of(call.rows),
-        "sha256_of_reply": sha256_of(call.told),
+        "asked": call_words(call), "told": told_of(call, viewer), "more": hint_of(view, call, zone), "row": words_of(call.row),
+        "reply": [words_of(row) for row in reply], "is_whole": len(asked) == len(call.rows) and len(reply) == len(call.told),
+        "sha256_of_rows": sha256_of(asked), "sha256_of_reply": sha256_of(reply),
     }

@@ -132,6 +132,8 @@ class Call:
     number: int
     rows: tuple[Row, ...]  # those that waited for it, and its own
     told: tuple[Row, ...]
+    cycle: int = 1  # the current one when it was made
+    left: int | None = None  # of a nomination: what the contract's other lines left then
 
     @property
     def row(self) -> Row:
@@ -217,9 +219,18 @@ class DayView:
     def line(self, number: int) -> Line | None:
         return self.lines[number - 1] if 1 <= number <= len(self.lines) else None
 
+    def left_by_others(self, row: Row) -> int | None:
+        """The quantity of a nomination's contract, less what its other lines are nominated last."""
+        contract, key = self.opening.contracts.get(row[3]), Key(*row[3:7])
+        if contract is None:
+            return None
+        others = (line for line in self.lines if line.key.contract == key.contract and line.key != key)
+        return contract.quantity - sum(line.nominations[-1].quantity for line in others)
+
     def add(self, rows: Sequence[Row], told: Sequence[Row]) -> Call:
         """Takes a call with what it was told."""
-        call = Call(len(self.calls) + 1, tuple(rows), tuple(told))
+        left = self.left_by_others(rows[-1]) if told[0][0] == "refused" and rows[-1][0] == "nominate" else None
+        call = Call(len(self.calls) + 1, tuple(rows), tuple(told), self.cycle, left)
         self.calls.append(call)
         if not call.is_refused:
             TAKERS[told[0][0]](self, call)

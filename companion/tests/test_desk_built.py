@@ -28,6 +28,7 @@ from gasday_desk.demo import make_demo
 from gasday_desk.journal import Journal, Maker
 from gasday_desk.keeper import Asked, Keeper
 from gasday_desk.program import Program
+from gasday_desk.rebuild import rebuild_book
 from gasday_desk.rows import of_kind, row_of, rows_in, told_groups_of
 
 HERE = Path(__file__).resolve().parent
@@ -118,7 +119,8 @@ class Built(DeskTest):
             file = self.folder / f"settle-{trial}.book"
             self.make_book(file)
             self.ask().ask("day", "--book", str(file), text=(lines + "freeze,1772922600,,,,,,\n").encode())
-            keeper = Keeper(self.ask(), file, f"BOOK-{trial}", journal, Guard(self.clock, lambda reason: None))
+            rebuild_book(journal, self.ask(), file)
+            keeper = Keeper(self.ask(), file, file.stem, journal, Guard(self.clock, lambda reason: None))
             keeper.call(Asked("post", ("S1", "70"), maker, "form-0"))
             assert keeper.run
             killer = threading.Timer(chance.uniform(0, 0.02), os.kill, (keeper.run.process.pid, signal.SIGKILL))

@@ -4,6 +4,7 @@ import os
 import random
 import signal
 import sqlite3
+import subprocess
 import threading
 import time
 import unittest
@@ -148,12 +149,14 @@ class Kept(DeskTest):
         """Once the desk rests the file is free; what others did is seen before the next call is told."""
         self.keeper.call(nomination("form-1"))
         time.sleep(0.6)
-        run = Keeper(self.program_of(), self.file, "OTHER", self.journal, Guard(self.clock, lambda reason: None), idle=0.1)
-        run.call(Asked("post", ("S1", "60"), SUE, "theirs-1"))
-        run.close()
+        subprocess.run([self.program, "day", "--book", self.file], input=b"post,1772910000,S1,60,,,,\n", check=True, capture_output=True)
         told = self.keeper.call(nomination("form-2", "5", "Q"))
         self.assertEqual(told.call.number if told.call else 0, 3)
         self.assertEqual(self.keeper.view.posted, {"S1": 60})
+        self.assertEqual(self.keeper.entries[2].maker.user, "not by this desk")
+        self.keeper.close()
+        self.keeper = self.open()
+        self.assertEqual(self.keeper.halted, "")
 
     def test_a_journal_that_is_full(self) -> None:
         """What can't be entered isn't sent."""

@@ -33,6 +33,7 @@ ADDRESSES = (
     ("POST", DAY + "/call/freeze", "c"), ("POST", DAY + "/call/settle", "c"), ("POST", DAY + "/call/publish", "c"),
     ("POST", DAY + "/call/declare", "c"), ("POST", DAY + "/call/waive", "c"), ("POST", DAY + "/call/skip", "c"),
     ("POST", DAY + "/confirm", "o"), ("POST", "/days/open", "c"), ("POST", "/clock", "c"),
+    ("GET", "/password", "soca"), ("POST", "/password", "soca"),
 )
 WISH = {"contract": "FIRM", "package": "P", "origin": "R1", "destination": "D1", "quantity": "7", "line": "1", "end": "origin",
         "element": "S1", "capacity": "90", "round": "1"}
@@ -278,11 +279,13 @@ class Office(PagesTest):
         rows = [row["asked"] for row in sue.json(f"{DAY}/calls.json")["rows"]]
         self.assertEqual(rows, ["SHIP nominates 1000 under FIRM, package P, from R1 to D1",
                                 "SHIP nominates 2000000 under FIRM, package Q, from R1 to D1"])
-        self.assertEqual(len(re.findall("<code>nominate,", sue.get(f"{DAY}/answers/{form}")[1])), 2)
+        answers = sue.get(f"{DAY}/answers/{form}")[1]
+        self.assertIn("2 accepted.", answers)
+        self.assertIn("SHIP nominates 1000 under FIRM, package P, from R1 to D1", answers)
         status, told = sue.post(f"{DAY}/upload", file=(io.BytesIO(b"freeze,,,,,,,\n"), "x.csv"))
         self.assertEqual(status, 400)
         status, told = sue.post(f"{DAY}/upload", file=(io.BytesIO(b"nominate,,,FIRM,P,R1,D1,50.5\n"), "x.csv"))
-        self.assertEqual((status, "the file:1: error" in told), (400, True))
+        self.assertEqual((status, "line 1: field 8" in told), (400, True))
 
     def test_silent_ends_all_at_once(self) -> None:
         """Each is confirmed as it stood on the page, whatever was nominated since."""
@@ -303,6 +306,7 @@ class Office(PagesTest):
     def test_what_is_faulty(self) -> None:
         status, told = self.browser("sue").nominate("MUCH")
         self.assertEqual((status, "BadField" in told), (422, True))
+        self.assertIn("The quantity &#39;MUCH&#39; is not a whole number from 0 to 1,000,000,000", told.replace("The call was not taken: the", "The"))
 
     def test_the_clock(self) -> None:
         """A clock that jumps stops calls until a scheduler has looked at it, also behind a new start."""
