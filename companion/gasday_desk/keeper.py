@@ -377,7 +377,9 @@ class Keeper:
             self.changed.notify_all()
 
     def opening_of(self, rows: list[list[str]]) -> Opening:
-        day = next(row for row in rows if row[0] == "day")
+        day = next((row for row in rows if row[0] == "day"), None)
+        if day is None:
+            raise Failed(f"{self.file.name} has no day row, so it is no book")
         return opening_of(rows, self.program.ask("calendar", text=written([day])).rows())
 
     def opened(self) -> Coprocess:

@@ -424,7 +424,7 @@ def public() -> Made:
     for book in books.values():
         try:
             parts.append(public_part(book))
-        except (Failed, Refused) as error:
+        except (Failed, Missing, Refused) as error:
             LOG.error("the public page lacks %s: %s", book, error)
             missing.append(book)
             continue

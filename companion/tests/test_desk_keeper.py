@@ -9,6 +9,7 @@ import threading
 import time
 import unittest
 from concurrent.futures import ThreadPoolExecutor
+from pathlib import Path
 
 from desk_helpers import BOOK, DeskTest
 
@@ -25,7 +26,7 @@ def nomination(token: str, quantity: str = "70", package: str = "P") -> Asked:
     return Asked("nominate", ("SHIP", "FIRM", package, "R1", "D1", quantity), SUE, token)
 
 
-class Kept(DeskTest):
+class KeptCalls(DeskTest):
     def setUp(self) -> None:
         super().setUp()
         self.file = self.folder / f"{BOOK}.book"
@@ -56,6 +57,8 @@ class Kept(DeskTest):
         if run:
             os.kill(run.process.pid, signal.SIGKILL)
 
+
+class Kept(KeptCalls):
     def test_calls_in_order(self) -> None:
         told = [self.keeper.call(nomination(f"form-{at}", str(at + 1), f"P{at}")) for at in range(3)]
         self.assertEqual([one.told[0][:4] for one in told], [("accepted", str(at), "1", str(at)) for at in (1, 2, 3)])
@@ -168,6 +171,30 @@ class Kept(DeskTest):
             self.journal.file.execute("PRAGMA query_only = 0")
         self.assertEqual(self.keeper.call(nomination("form-1")).told[0][1], "1")
         self.assertEqual(len(self.rows_kept()), 1)
+
+
+class Crowded(KeptCalls):
+    """Calls of uploads, and others that come meanwhile, with a program that takes a few milliseconds for each."""
+
+    def fake(self) -> str:
+        path = Path(super().fake())
+        head = "    def call(self, row):\n"
+        path.write_text(path.read_text().replace(head, head + "        import time; time.sleep(0.004)\n"))
+        return str(path)
+
+    def test_the_scheduler_waits_for_no_upload(self) -> None:
+        """Twenty uploads of a hundred rows wait; a scheduler's call is sent before them, after those that are at hand."""
+        bulk = {"is_bulk": True}
+        rows = [[nomination(f"file-{at}.{row}", "1", f"P{at}-{row}") for row in range(100)] for at in range(20)]
+        with ThreadPoolExecutor(20) as pool:
+            told = [pool.submit(self.keeper.call_all, one, **bulk) for one in rows]
+            while len(self.keeper.view.calls) < 60:
+                time.sleep(0.005)
+            before = len(self.keeper.view.calls)
+            one = self.keeper.call(Asked("post", ("S1", "60"), Maker("sam", "scheduler", "PIPE"), "form-1"))
+            assert one.call
+            self.assertLess(one.call.number - before, 110)
+            self.assertEqual(sum(len(some.result()) for some in told), 2000)
 
 
 class Resolved(DeskTest):
