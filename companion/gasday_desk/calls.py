@@ -56,7 +56,8 @@ class Wish:
         fields = tuple(self.field(name) for name in FIELDS[self.kind])
         for name, text in zip(FIELDS[self.kind], fields, strict=True):
             if not SAFE.fullmatch(text):
-                raise Unclear(f"the {name} {text[:40]!r} {WRONG_NUMBER if name in QUANTITIES else WRONG_NAME}")
+                written = self.fields.get(name, "").strip()[:40]
+                raise Unclear(f"the {name} {written!r} {WRONG_NUMBER if name in QUANTITIES else WRONG_NAME}")
         return fields
 
 

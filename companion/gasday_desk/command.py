@@ -9,6 +9,7 @@ from dataclasses import replace
 from pathlib import Path
 
 from gasday_report.ending import ends_in_order
+from gasday_version import add_version
 
 from .parties import check_party, meant
 from .passwords import check_password
@@ -179,6 +180,7 @@ def add_people(parser: argparse.ArgumentParser) -> None:
 def parser_of() -> argparse.ArgumentParser:
     parser = argparse.ArgumentParser(prog="gasday-desk", description=DESCRIPTION,
                                      formatter_class=argparse.RawDescriptionHelpFormatter)
+    add_version(parser)
     commands = parser.add_subparsers(required=True, metavar="COMMAND")
     for name, do, words in (("init", init, "make the folder of a desk"), ("run", run, "run the server of a desk")):
         added = commands.add_parser(name, help=words)

@@ -30,9 +30,14 @@ class Column:
     link: str = ""  # what a cell of it leads to: call or cycle
 
     @property
+    def is_below(self) -> bool:
+        """Whether a page shows it below the row, over its whole width: long words would be cut off at its end."""
+        return self.key == "why"
+
+    @property
     def style(self) -> str:
         """The class of its cells in the style sheet."""
-        return "number" if self.is_number else "words" if self.key in ("why", "asked", "told", "row") else "name"
+        return "number" if self.is_number else "words" if self.key in ("asked", "told", "row") else "name"
 
 
 @dataclass
@@ -51,11 +56,16 @@ class Table:
         writer.writerows(self.rows)
         return out.getvalue()
 
-    def cells(self, row: list[Cell]) -> list[tuple[Column, str]]:
-        """The cells of a row as a page shows them."""
+    @property
+    def heads(self) -> list[Column]:
+        """The columns that a page shows next to each other."""
+        return [column for column in self.columns if not column.is_below]
+
+    def cells(self, row: list[Cell], below: bool = False) -> list[tuple[Column, str]]:
+        """The cells of a row as a page shows them: those next to each other, or the words below them."""
         shown = (f"{value:,}" if isinstance(value, int) and column.is_number else "" if value is None else str(value)
                  for column, value in zip(self.columns, row, strict=True))
-        return list(zip(self.columns, shown, strict=True))
+        return [(column, text) for column, text in zip(self.columns, shown, strict=True) if column.is_below == below]
 
     def records(self) -> list[dict[str, Cell]]:
         return [dict(zip([column.key for column in self.columns], row, strict=True)) for row in self.rows]

@@ -51,7 +51,12 @@ DAY = f"/days/{BOOK}"
 SCHEDULED = {1: [30000, 15000, 0], 2: [40000, 10000, 0], 3: [33917, 2083, 0], 5: [36917, 2083, 0]}
 # By hand: what each had before and was confirmed, less what it gets.
 BUMPED = {2: {2: 15000 - 10000}, 3: {1: 40000 - 33917, 2: 10000 - 2083}}
-WIDE, NARROW = (1280, 900), (390, 844)
+WIDE, WIDER, NARROW = (1280, 900), (1920, 1080), (390, 844)
+SIZES = {"desk": WIDE, "wide": WIDER, "phone": NARROW}
+# At these widths too no table is cut off.
+WIDTHS = (1300, 1366, 1440, 1600, 1760)
+CUT_OFF = """return Array.from(document.querySelectorAll(".scroll")).map(part => part.scrollWidth - part.clientWidth)
+    .concat([document.documentElement.scrollWidth - document.documentElement.clientWidth])"""
 SECONDS = 20.0
 
 
@@ -171,18 +176,22 @@ class People:
             time.sleep(0.1)
 
     def look(self, name: str) -> None:
-        """Takes pictures of the page in both widths."""
-        if self.pictures is None:
-            return
-        for kind, size in (("desk", WIDE), ("phone", NARROW)):
+        """Looks whether anything is cut off in several widths, and takes pictures of the page in three of them."""
+        for width in WIDTHS:
+            self.driver.set_window_size(width, WIDE[1])
+            self.need_width(name, width)
+        for kind, size in SIZES.items():
             self.driver.set_window_size(*size)
-            height = self.driver.execute_script("return document.documentElement.scrollHeight")
-            self.driver.set_window_size(size[0], min(3000, max(size[1], int(height) + 90)))
-            self.driver.save_screenshot(str(self.pictures / f"{name}-{kind}.png"))
-            width = self.driver.execute_script(
-                "return document.documentElement.scrollWidth - document.documentElement.clientWidth")
-            need(width <= 0, f"the page {name} is wider than a {kind} by {width}")
+            self.need_width(name, size[0])
+            if self.pictures:
+                height = self.driver.execute_script("return document.documentElement.scrollHeight")
+                self.driver.set_window_size(size[0], min(3000, max(size[1], int(height) + 90)))
+                self.driver.save_screenshot(str(self.pictures / f"{name}-{kind}.png"))
         self.driver.set_window_size(*WIDE)
+
+    def need_width(self, name: str, width: int) -> None:
+        cut = max(self.driver.execute_script(CUT_OFF))
+        need(cut <= 0, f"the page {name} lacks {cut} pixels at a width of {width}")
 
     def errors(self) -> list[str]:
         """What the browser has to complain of, but for addresses that answer with a refusal."""
@@ -207,7 +216,7 @@ class People:
         self.be("olga", f"{DAY}/confirm")
         self.fill(f"quantity {line} {end}", quantity)
         self.press("Confirm what is filled in")
-        need("done," in self.text(), f"not confirmed: {self.text()[:400]}")
+        need("1 accepted." in self.text(), f"not confirmed: {self.text()[:400]}")
 
     def post(self, row: list[str]) -> None:
         self.be("sam", f"{DAY}/capacities")

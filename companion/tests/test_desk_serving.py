@@ -97,6 +97,37 @@ class Serving(DeskTest):
         for one in slow:
             one.close()
 
+    def test_one_user_that_takes_all_it_can(self) -> None:
+        """Forty files that take long, and a hundred streams: the scheduler's call is answered meanwhile, and so is a shipper's."""
+        over, files = threading.Event(), b"a," * 950_000
+
+        def upload(at: int) -> None:
+            body = (f'--x\r\nContent-Disposition: form-data; name="form"\r\n\r\nform-{at:06}\r\n--x\r\nContent-Disposition: '
+                    'form-data; name="file"; filename="x.csv"\r\n\r\n').encode() + files + b"\r\n--x--\r\n"
+            while not over.is_set():
+                with contextlib.suppress(OSError, http.client.HTTPException):
+                    self.desk.ask("user0", "POST", f"/days/{self.desk.book}/upload", body,
+                                  Content_Type="multipart/form-data; boundary=x")
+
+        streams = []
+        for _ in range(100):
+            one = http.client.HTTPConnection("127.0.0.1", self.desk.port, timeout=30)
+            one.request("GET", f"/days/{self.desk.book}/events", headers={"Authorization": f"Bearer {self.desk.tokens['user0']}"})
+            streams.append(one)
+        threads = [threading.Thread(target=upload, args=(at,), daemon=True) for at in range(40)]
+        for thread in threads:
+            thread.start()
+        time.sleep(2)
+        try:
+            began = time.monotonic()
+            self.assertEqual(self.desk.call("sam", "post-0001", kind="post", element="S1", capacity=7)[0], 200)
+            self.assertEqual(self.desk.nominate(1, "P", "order-0001")[0], 200)
+            self.assertLess(time.monotonic() - began, 10)
+        finally:
+            over.set()
+            for one in streams:
+                one.close()
+
     def test_events(self) -> None:
         """A page is told of a call at once."""
         connection = http.client.HTTPConnection("127.0.0.1", self.desk.port, timeout=30)
