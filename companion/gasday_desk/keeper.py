@@ -49,8 +49,8 @@ class Repeated(Resent):
     """A call that is the same as one whose form was lost with the journal: it may be that very call."""
 
     def __init__(self, number: int) -> None:
-        super().__init__(f"call {number} of the book asks for the same, and the journal lost by which form it was made. If this is"
-                         f" that call, it was made: see its receipt. If it is a new one, send it once more as a repeat")
+        super().__init__(f"call {number} of the book asks for the same, and the journal lost by which form it was made. If this"
+                         " is that call, it was made: see its receipt. If it is a new one, send it once more as a repeat")
 
 
 @dataclass(frozen=True)
@@ -281,8 +281,8 @@ class Keeper:
         """Why no call of this book is made until the journal is rebuilt; nothing where it is whole."""
         if not self.unknown:
             return ""
-        return (f"desk.db lacks {self.unknown} of the calls of {self.book}, so the desk would not recognize a form or key that comes"
-                " again. End the desk and run `gasday-desk rebuild` on its folder")
+        return (f"desk.db lacks {self.unknown} of the calls of {self.book}, so the desk would not recognize a form or key that"
+                " comes again. End the desk and run `gasday-desk rebuild` on its folder")
 
     def check_file(self) -> None:
         """Fails where the book's file was taken away or replaced: what the program commits then is in no file of that name."""

@@ -297,9 +297,8 @@ def hint_of(view: DayView, call: Call, zone: str) -> str:
         return ""
     why = call.told[0][3]
     if why == "OverContract" and call.left is not None:
-        contract = call.row[3]
-        return (f"{contract} has {view.opening.contracts[contract].quantity:,}; its other lines leave {max(0, call.left):,} for this"
-                " one")
+        name, has = call.row[3], view.opening.contracts[call.row[3]].quantity
+        return f"{name} has {has:,}; its other lines leave {max(0, call.left):,} for this one"
     if why == "TooEarly" and call.cycle in view.opening.times:
         return f"{CYCLES[call.cycle]} may be frozen from {shown(view.opening.times[call.cycle].confirmed, zone)} on"
     if why == "DayClosed":
@@ -374,8 +373,8 @@ def sees_row(view: DayView, viewer: Viewer, row: Row) -> bool:
 
 
 def receipt_of(view: DayView, viewer: Viewer, call: Call, entry: Entry | None, zone: str) -> dict[str, Any]:
-    """What the reader may keep of a call. The hashes are of the rows that are shown and of no others, each with its line feed:
-    a hash of hidden rows would let the reader search for what is in them. `gasday text FILE | gasday day` prints the same rows."""
+    """What the reader may store of a call. The hashes are of the rows that are shown and of no others, each with its line feed:
+    a hash of hidden rows would let the reader search for what is in them."""
     maker = entry.maker if entry else ("not by this desk", "", "")
     told = call.told[0]
     cycle = int(told[2]) if told[0] in ("accepted", "frozen", "published", "declared") else None

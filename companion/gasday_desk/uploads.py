@@ -95,7 +95,8 @@ def errors_in(told: bytes, file: str) -> list[str]:
     """What the importer couldn't repair, line by line; else what it said last."""
     lines = told.decode("utf-8", "replace").splitlines()
     errors = [line.removeprefix(f"{file}:").replace(": error: ", ": ", 1) for line in lines if ": error: " in line]
-    shown = [f"line {line[:300]}" for line in errors[:MOST_ERRORS]] or [line.replace(file, "the file")[:300] for line in lines[-2:]]
+    last = [line.replace(file, "the file")[:300] for line in lines[-2:]]
+    shown = [f"line {line[:300]}" for line in errors[:MOST_ERRORS]] or last
     return shown + ([f"and {len(errors) - MOST_ERRORS:,} more"] if len(errors) > MOST_ERRORS else [])
 
 

@@ -112,6 +112,7 @@ class People:
     def __init__(self, driver: Any, address: str, desk: Desk, clock: HandClock, pictures: Path | None) -> None:
         self.driver, self.address, self.desk, self.clock, self.pictures = driver, address, desk, clock, pictures
         self.cookies: dict[str, Any] = {}
+        self.since: dict[str, float] = {}
         self.taken = 0
         self.driver.set_window_size(*WIDE)
         for name, _, _ in USERS:
@@ -124,10 +125,12 @@ class People:
         self.fill("password", PASSWORD)
         self.press("Log in")
         need("Gas days" in self.text(), f"{name} isn't logged in: {self.text()[:200]}")
-        self.cookies[name] = self.driver.get_cookie("desk")
+        self.cookies[name], self.since[name] = self.driver.get_cookie("desk"), self.clock.now()
 
     def be(self, name: str, address: str = DAY) -> None:
-        """Somebody else sits down at the browser, on a page."""
+        """Somebody else sits down at the browser, on a page, and logs in again after eleven hours, since a session ends."""
+        if self.clock.now() > self.since[name] + 11 * 3600:
+            self.log_in(name)
         self.driver.delete_all_cookies()
         self.driver.add_cookie(self.cookies[name])
         self.go(address)

@@ -152,7 +152,8 @@ class Kept(KeptCalls):
         """Once the desk rests the file is free; what others did is seen before the next call is told."""
         self.keeper.call(nomination("form-1"))
         time.sleep(0.6)
-        subprocess.run([self.program, "day", "--book", self.file], input=b"post,1772910000,S1,60,,,,\n", check=True, capture_output=True)
+        words, row = [self.program, "day", "--book", self.file], b"post,1772910000,S1,60,,,,\n"
+        subprocess.run(words, input=row, check=True, capture_output=True)
         told = self.keeper.call(nomination("form-2", "5", "Q"))
         self.assertEqual(told.call.number if told.call else 0, 3)
         self.assertEqual(self.keeper.view.posted, {"S1": 60})

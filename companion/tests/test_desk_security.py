@@ -66,7 +66,8 @@ class Users(DeskTest):
 
     def test_without_a_terminal(self) -> None:
         """One sentence that says what to do, and no traceback."""
-        words = [sys.executable, COMPANION / "gasday-desk", "user", "add", self.path, "ida", "--party", "SHIP", "--role", "shipper"]
+        user = ["ida", "--party", "SHIP", "--role", "shipper"]
+        words = [sys.executable, COMPANION / "gasday-desk", "user", "add", self.path, *user]
         done = subprocess.run(words, stdin=subprocess.DEVNULL, capture_output=True, start_new_session=True, timeout=60)
         self.assertEqual((done.returncode, b"Traceback" in done.stderr), (2, False))
         self.assertIn(b"--stdin", done.stderr)
@@ -91,8 +92,8 @@ class Users(DeskTest):
             self.assertEqual(out.getvalue().strip(), words)
 
     def test_common_passwords(self) -> None:
-        for password in ("password123", "Password!!", "1234567890", "qwertyuiop", "P@ssw0rd2026", "aaaaaaaaaaaa", "letmeinletmein",
-                         "iloveyou12", "9876543210", "ida-ship-ida", "summer2026!", "short"):
+        for password in ("password123", "Password!!", "1234567890", "qwertyuiop", "P@ssw0rd2026", "aaaaaaaaaaaa",
+                         "letmeinletmein", "iloveyou12", "9876543210", "ida-ship-ida", "summer2026!", "short"):
             with mock.patch.object(sys, "stdin", io.StringIO(password + "\n")):
                 status, told = run("user", "add", self.path, "ida", "--party", "SHIP", "--role", "shipper", "--stdin")
             self.assertEqual((status, "password" in told), (2, True), password)
@@ -169,7 +170,8 @@ class Passwords(PagesTest):
         sue, other = self.browser("sue"), self.browser("sue")
         before = users_of(self.path / "users.toml")
         for old, new, again, words in (("wrong", NEW, NEW, "old password is wrong"), (PASSWORD, NEW, NEW + "x", "differ"),
-                                       (PASSWORD, "password123", "password123", "common one"), (PASSWORD, "a", "a", "10 letters")):
+                                       (PASSWORD, "password123", "password123", "common one"),
+                                       (PASSWORD, "a", "a", "10 letters")):
             status, told = self.change(sue, old, new, again)
             self.assertEqual((status, words in told), (400, True))
         self.assertEqual(users_of(self.path / "users.toml"), before)
@@ -313,7 +315,8 @@ class Bounded(PagesTest):
         sue = users["sue"]
         write_users(self.path / "users.toml", {**users, "sue": type(sue)(sue.name, sue.party, sue.role, sue.password, (hashed,))})
         headers = {"Authorization": f"Bearer {token}", "Idempotency-Key": "12345678", "Content-Type": "application/json"}
-        for text in ("[" * 200_000, '{"kind": ' * 100_000, '{"kind": "nominate", "quantity": ' + "[" * 100_000 + "]" * 100_000 + "}"):
+        deep = "[" * 100_000 + "]" * 100_000
+        for text in ("[" * 200_000, '{"kind": ' * 100_000, '{"kind": "nominate", "quantity": ' + deep + "}"):
             answer = self.app.test_client().post(f"/api/days/{BOOK}/calls", data=text, headers=headers)
             self.assertEqual(answer.status_code, 400)
 
@@ -324,8 +327,8 @@ class Bounded(PagesTest):
             status, told = self.browser("sue").post(f"{DAY}/call/nominate", **{
                 "contract": "FIRM", "package": "P", "origin": "R1", "destination": "D1", "quantity": "7", field: text})
             self.assertIn(status, (400, 403), text)
-        for text in ("nominate,,,FIRM,stra\u00dfe,R1,D1,7\n", "nominate,,,f\u0131rm,P,R1,D1,7\n", "nominate,,,FIRM,Caf\u00e9,R1,D1,7\n"):
-            self.assertEqual(self.upload(text.encode())[0], 400)
+        for names in ("FIRM,stra\u00dfe", "f\u0131rm,P", "FIRM,Caf\u00e9"):
+            self.assertEqual(self.upload(f"nominate,,,{names},R1,D1,7\n".encode())[0], 400)
         self.assertEqual(len(self.desk.keepers[BOOK].view.calls), 0)
 
 

@@ -98,7 +98,7 @@ class Serving(DeskTest):
             one.close()
 
     def test_one_user_that_takes_all_it_can(self) -> None:
-        """Forty files that take long, and a hundred streams: the scheduler's call is answered meanwhile, and so is a shipper's."""
+        """Forty files that take long, and a hundred streams: calls of the scheduler and of others are answered meanwhile."""
         over, files = threading.Event(), b"a," * 950_000
 
         def upload(at: int) -> None:

@@ -63,10 +63,10 @@ class Answers(PagesTest):
 
     def test_faults_of_calls(self) -> None:
         sue = self.browser("sue")
-        for field, text, words in (("quantity", "2000000000", "quantity &#39;2000000000&#39; is not a whole number from 0 to 1,000,"),
-                                   ("package", "ABCDEFGHIJKLMNOPQ", "package &#39;ABCDEFGHIJKLMNOPQ&#39; is not 1 to 16 of A to Z")):
+        for field, text, words in (("quantity", "2000000000", "is not a whole number from 0 to 1,000,000,000"),
+                                   ("package", "ABCDEFGHIJKLMNOPQ", "is not 1 to 16 of A to Z")):
             status, told = sue.nominate(**{"quantity": "7", field: text})
-            self.assertEqual((status, words in told), (422, True), told)
+            self.assertEqual((status, f"{field} &#39;{text}&#39; {words}" in told), (422, True), told)
         status, told = self.upload("sue", "nominate,,,FIRM,P,R1,D1,2000000000\n")
         self.assertEqual((status, "1 faulty." in told, "the quantity &#39;2000000000&#39; is not" in told), (303, True, True))
 
@@ -83,7 +83,7 @@ class Answers(PagesTest):
             with mock.patch.object(keeper, "BUSY_SECONDS", 0.2):
                 status, told = self.browser("sue").nominate()
             other.stdin.close()
-        self.assertEqual((status, f"another process has the file {BOOK}.book" in told.lower().replace(BOOK.lower(), BOOK)), (503, True))
+        self.assertEqual((status, f"another process has the file {BOOK}.book" in told), (503, True))
 
     def test_a_day_that_can_not_be_opened(self) -> None:
         """What the program says of the texts is said in a sentence with the row."""
@@ -144,7 +144,8 @@ class Written(PagesTest):
             self.assertRegex(told, "The desk fills in moment and party")
             header = re.search(r"columns <code>([a-z,]+)</code>", told)
             assert header
-            values = {"contract": "FIRM", "package": "P", "origin": "R1", "dest": "D1", "quantity": "7", "line": "1", "end": "origin"}
+            values = {"contract": "FIRM", "package": "P", "origin": "R1", "dest": "D1", "quantity": "7", "line": "1",
+                      "end": "origin"}
             row = ",".join(values[name] for name in header[1].split(","))
             self.assertEqual(self.upload(user, f"{header[1]}\n{row}\n"), 303)
 
@@ -179,7 +180,8 @@ class Tables(unittest.TestCase):
 
 class Versions(DeskTest):
     def test_of_the_command(self) -> None:
-        done = subprocess.run([sys.executable, COMPANION / "gasday-desk", "--version"], capture_output=True, text=True, timeout=60)
+        words = [sys.executable, COMPANION / "gasday-desk", "--version"]
+        done = subprocess.run(words, capture_output=True, text=True, timeout=60)
         self.assertEqual((done.returncode, done.stdout.split()[:2]), (0, ["gasday-desk", gasday_version.VERSION]))
         project = tomllib.loads((COMPANION / "pyproject.toml").read_text())
         self.assertEqual(project["tool"]["setuptools"]["dynamic"]["version"], {"attr": "gasday_version.VERSION"})
