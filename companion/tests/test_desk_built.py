@@ -140,6 +140,7 @@ class Built(DeskTest):
         out = io.StringIO()
         with contextlib.redirect_stdout(out):
             self.assertEqual(main(["export", str(path), book.stem, "--gasday", self.program]), 0)
+        self.assertEqual(Path(out.getvalue().strip()).stat().st_mode & 0o777, 0o640)
         with tarfile.open(out.getvalue().strip()) as archive:
             archive.extractall(self.folder / "out")
         whole = self.folder / "out" / book.stem

@@ -152,8 +152,8 @@ class Kept(KeptCalls):
         """Once the desk rests the file is free; what others did is seen before the next call is told."""
         self.keeper.call(nomination("form-1"))
         time.sleep(0.6)
-        words, row = [self.program, "day", "--book", self.file], b"post,1772910000,S1,60,,,,\n"
-        subprocess.run(words, input=row, check=True, capture_output=True)
+        row = b"post,1772910000,S1,60,,,,\n"
+        subprocess.run([self.program, "day", "--book", self.file], input=row, check=True, capture_output=True)
         told = self.keeper.call(nomination("form-2", "5", "Q"))
         self.assertEqual(told.call.number if told.call else 0, 3)
         self.assertEqual(self.keeper.view.posted, {"S1": 60})
@@ -185,10 +185,9 @@ class Crowded(KeptCalls):
 
     def test_the_scheduler_waits_for_no_upload(self) -> None:
         """Twenty uploads of a hundred rows wait; a scheduler's call is sent before them, after those that are at hand."""
-        bulk = {"is_bulk": True}
         rows = [[nomination(f"file-{at}.{row}", "1", f"P{at}-{row}") for row in range(100)] for at in range(20)]
         with ThreadPoolExecutor(20) as pool:
-            told = [pool.submit(self.keeper.call_all, one, **bulk) for one in rows]
+            told = [pool.submit(self.keeper.call_all, one, is_bulk=True) for one in rows]
             while len(self.keeper.view.calls) < 60:
                 time.sleep(0.005)
             before = len(self.keeper.view.calls)

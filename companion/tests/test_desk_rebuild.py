@@ -10,8 +10,8 @@ from unittest import mock
 from desk_helpers import BOOK, USERS
 from desk_pages import DAY, PagesTest
 
-from gasday_desk import keeper as keeper_module
 from gasday_desk.command import main
+from gasday_desk.coprocess import Coprocess
 from gasday_desk.people import new_token
 from gasday_desk.settings import User, users_of, write_users
 
@@ -140,13 +140,13 @@ class Books(Lost):
         self.nominate("order-0001")
         file = self.path / "books" / f"{BOOK}.book"
         copy = file.read_bytes()
-        sent = keeper_module.Coprocess.ask
+        sent = Coprocess.ask
 
         def ask(run, calls):  # type: ignore[no-untyped-def]
             yield from sent(run, calls)
             file.unlink()
 
-        with mock.patch.object(keeper_module.Coprocess, "ask", ask):
+        with mock.patch.object(Coprocess, "ask", ask):
             self.assertEqual(self.nominate("order-0002", 50)[0], 503)
         file.write_bytes(copy)
         self.assertEqual(self.nominate("order-0002", 50)[1]["call"], 2)

@@ -67,7 +67,7 @@ class Users(DeskTest):
     def test_without_a_terminal(self) -> None:
         """One sentence that says what to do, and no traceback."""
         user = ["ida", "--party", "SHIP", "--role", "shipper"]
-        words = [sys.executable, COMPANION / "gasday-desk", "user", "add", self.path, *user]
+        words: list[str | Path] = [sys.executable, COMPANION / "gasday-desk", "user", "add", self.path, *user]
         done = subprocess.run(words, stdin=subprocess.DEVNULL, capture_output=True, start_new_session=True, timeout=60)
         self.assertEqual((done.returncode, b"Traceback" in done.stderr), (2, False))
         self.assertIn(b"--stdin", done.stderr)
@@ -134,11 +134,12 @@ class Sessions(PagesTest):
         answer = browser.client.get(f"{DAY}/events", buffered=False)
         parts = iter(answer.response)
         next(parts)
-        ended = threading.Event()
-        threading.Thread(target=lambda: (list(parts), ended.set()), daemon=True).start()
+        taking = threading.Thread(target=list, args=(parts,), daemon=True)
+        taking.start()
         run("user", "remove", self.path, "sue")
         self.assertEqual(browser.get("/days")[0], 302)
-        self.assertTrue(ended.wait(10))
+        taking.join(10)
+        self.assertFalse(taking.is_alive())
 
     def test_a_removed_user_in_the_midst_of_an_upload(self) -> None:
         """What wasn't sent by then is not."""

@@ -180,8 +180,8 @@ class Tables(unittest.TestCase):
 
 class Versions(DeskTest):
     def test_of_the_command(self) -> None:
-        words = [sys.executable, COMPANION / "gasday-desk", "--version"]
-        done = subprocess.run(words, capture_output=True, text=True, timeout=60)
+        done = subprocess.run([sys.executable, COMPANION / "gasday-desk", "--version"], capture_output=True, text=True,
+                              timeout=60)
         self.assertEqual((done.returncode, done.stdout.split()[:2]), (0, ["gasday-desk", gasday_version.VERSION]))
         project = tomllib.loads((COMPANION / "pyproject.toml").read_text())
         self.assertEqual(project["tool"]["setuptools"]["dynamic"]["version"], {"attr": "gasday_version.VERSION"})
