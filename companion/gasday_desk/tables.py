@@ -302,7 +302,7 @@ def hint_of(view: DayView, call: Call, zone: str) -> str:
     if why == "TooEarly" and call.cycle in view.opening.times:
         return f"{CYCLES[call.cycle]} may be frozen from {shown(view.opening.times[call.cycle].confirmed, zone)} on"
     if why == "DayClosed":
-        return f"the last nominations were due at {shown(view.opening.times[len(CYCLES)].received, zone)}"
+        return f"The last nominations were due at {shown(view.opening.times[len(CYCLES)].received, zone)}"
     return ""
 
 
