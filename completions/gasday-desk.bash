@@ -5,14 +5,15 @@ _gasday_desk() {
     local word=${COMP_WORDS[COMP_CWORD]} before=${COMP_WORDS[COMP_CWORD - 1]} offered='' files=''
     COMPREPLY=()
     case $COMP_CWORD:${COMP_WORDS[1]}:${COMP_WORDS[2]} in
-        1:*:*) offered='init run demo user export --help' ;;
+        1:*:*) offered='init run demo user rebuild export --version --help' ;;
         *:init:*) offered='--help' files=-d ;;
         *:run:*) offered='--gasday --help' files=-d ;;
         *:demo:*) offered='--gasday --listen --help' files=-d ;;
         2:user:*) offered='add token remove --help' ;;
-        *:user:add) offered='--party --role --stdin --help' files=-d ;;
+        *:user:add) offered='--party --role --stdin --unnamed --help' files=-d ;;
         *:user:token) offered='--help' files=-d ;;
         *:user:remove) offered='--help' files=-d ;;
+        *:rebuild:*) offered='--gasday --help' files=-d ;;
         *:export:*) offered='--gasday --output --help' files=-d ;;
     esac
     case $before in

@@ -5,7 +5,7 @@ _gasday_fleet() {
     local word=${COMP_WORDS[COMP_CWORD]} before=${COMP_WORDS[COMP_CWORD - 1]} offered='' files=''
     COMPREPLY=()
     case $COMP_CWORD:${COMP_WORDS[1]}:${COMP_WORDS[2]} in
-        1:*:*) offered='audit days study --help' ;;
+        1:*:*) offered='audit days study --version --help' ;;
         *:audit:*) offered='--send --untimed --output --resume --scheduler --serial --workers --gasday --retries --timeout --help' files=-f ;;
         *:days:*) offered='--archive --send --untimed --output --resume --scheduler --serial --workers --gasday --retries --timeout --help' files=-d ;;
         *:study:*) offered='--question --json --html --batch --output --resume --scheduler --serial --workers --gasday --retries --timeout --help' files=-f ;;

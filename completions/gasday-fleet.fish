@@ -6,6 +6,7 @@ complete -c gasday-fleet -n __fish_use_subcommand -a audit -d 'audit archives'
 complete -c gasday-fleet -n __fish_use_subcommand -a days -d 'run gas days once more'
 complete -c gasday-fleet -n __fish_use_subcommand -a study -d 'solve a question in many scenarios'
 complete -c gasday-fleet -n __fish_use_subcommand -s h -l help -d 'show this help message and exit'
+complete -c gasday-fleet -n __fish_use_subcommand -l version -d 'print the version'
 complete -c gasday-fleet -n '__fish_seen_subcommand_from audit' -F
 complete -c gasday-fleet -n '__fish_seen_subcommand_from audit' -s h -l help -d 'show this help message and exit'
 complete -c gasday-fleet -n '__fish_seen_subcommand_from audit' -l send -d 'send the files to workers that don\'t see them'

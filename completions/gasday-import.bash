@@ -4,7 +4,7 @@
 _gasday_import() {
     local word=${COMP_WORDS[COMP_CWORD]} before=${COMP_WORDS[COMP_CWORD - 1]} offered='' files=''
     COMPREPLY=()
-    offered='--strict --each --by-time --names --sheet --gasday --output --help' files=-f
+    offered='--version --strict --each --by-time --names --sheet --gasday --output --help' files=-f
     case $before in
         --names | --gasday | --output | *[\<\>]*) offered='' files=-f ;;
         --sheet) offered='' files= ;;

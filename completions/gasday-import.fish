@@ -2,6 +2,7 @@
 # Made by tests/tool_pages.py of what gasday-import --help tells: change that, and not this file.
 
 complete -c gasday-import -s h -l help -d 'show this help message and exit'
+complete -c gasday-import -l version -d 'print the version'
 complete -c gasday-import -l strict -d 'refuse in place of repairing, and where there is a doubt'
 complete -c gasday-import -l each -d 'print each repair with its line'
 complete -c gasday-import -l by-time -d 'merge the calls of all files by their moments, each file\'s own in its order'

@@ -4,7 +4,7 @@
 _gasday_report() {
     local word=${COMP_WORDS[COMP_CWORD]} before=${COMP_WORDS[COMP_CWORD - 1]} offered='' files=''
     COMPREPLY=()
-    offered='--events --replies --book --archive --posting --notices --gasday --certificate-alone --format --arithmetic --table --local --help' files=-f
+    offered='--version --events --replies --book --archive --posting --notices --gasday --certificate-alone --format --arithmetic --table --local --help' files=-f
     case $before in
         --events | --replies | --book | --archive | --gasday | *[\<\>]*) offered='' files=-f ;;
         --notices) offered='' files=-d ;;

@@ -2,6 +2,7 @@
 # Made by tests/tool_pages.py of what gasday-report --help tells: change that, and not this file.
 
 complete -c gasday-report -s h -l help -d 'show this help message and exit'
+complete -c gasday-report -l version -d 'print the version'
 complete -c gasday-report -l events -r -F -d 'a text for gasday day'
 complete -c gasday-report -l replies -r -F -d 'what gasday day printed for it'
 complete -c gasday-report -l book -r -F -d 'the file of a book, made by gasday day --book, in place of both'

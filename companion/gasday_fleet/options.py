@@ -4,6 +4,8 @@ import argparse
 import os
 from collections.abc import Callable, Sequence
 
+from gasday_version import add_version
+
 DESCRIPTION = """\
 Hands many archives, gas days or questions to many processors, and makes one table of the answers: by Dask's distributed
 scheduler on this machine, by a running cluster of it with --scheduler, or one after the other with --serial, which needs
@@ -57,6 +59,7 @@ def add_files(parser: argparse.ArgumentParser) -> None:
 def parser_of() -> argparse.ArgumentParser:
     parser = argparse.ArgumentParser(prog="gasday-fleet", description=DESCRIPTION,
                                      formatter_class=argparse.RawDescriptionHelpFormatter)
+    add_version(parser)
     commands = parser.add_subparsers(dest="command", required=True, metavar="COMMAND")
     audit = commands.add_parser("audit", help="audit archives", description=AUDIT, epilog=NOT_PROVED)
     audit.add_argument("files", nargs="+", metavar="FILE", help="an archive")

@@ -8,6 +8,7 @@ from pathlib import Path
 
 from gasday_report.ending import ends_in_order
 from gasday_report.texts import Fault
+from gasday_version import add_version
 
 from .confirmations import find_lines
 from .doubts import report_cases, report_earlier, report_twice
@@ -86,6 +87,7 @@ def write(path: str, data: bytes) -> None:
 def options_of(words: Sequence[str] | None) -> argparse.Namespace:
     parser = argparse.ArgumentParser(prog="gasday-import", description=DESCRIPTION,
                                      formatter_class=argparse.RawDescriptionHelpFormatter)
+    add_version(parser)
     parser.add_argument("--strict", action="store_true", help="refuse in place of repairing, and where there is a doubt")
     parser.add_argument("--each", action="store_true", help="print each repair with its line")
     parser.add_argument("--by-time", action="store_true",

@@ -3,6 +3,8 @@
 import argparse
 from collections.abc import Sequence
 
+from gasday_version import add_version
+
 DESCRIPTION = """Checks an answer of gasday with `gasday check ..` and with certificate.py, and shows after a PASS what it
 says of each line and each element; of a gas day cycle by cycle, with why a line has less than was nominated. The exit status
 is 0 after a PASS, 1 after a FAIL, and 2 after a fault of usage or of reading. docs/REPORT.md says more."""
@@ -13,6 +15,7 @@ DAY_TABLES = ("calls", "cycle-lines", "cycle-elements", "cycle-sharing")
 
 def parser_of() -> argparse.ArgumentParser:
     parser = argparse.ArgumentParser(prog="gasday-report", description=DESCRIPTION)
+    add_version(parser)
     parser.add_argument("question", nargs="?", metavar="QUESTION", help="a text for `gasday solve`")
     parser.add_argument("answer", nargs="?", metavar="ANSWER", help="what `gasday solve` printed, or a posting's body")
     parser.add_argument("--events", metavar="TEXT", help="a text for `gasday day`")

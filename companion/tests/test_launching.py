@@ -7,7 +7,7 @@ import sys
 import unittest
 from pathlib import Path
 
-from helpers import TOP, TWO_LINES, TWO_LINES_ANSWER, TWO_LINES_TOLD, ReportTest
+from helpers import NO_SOLVE, TOP, TWO_LINES, TWO_LINES_ANSWER, TWO_LINES_TOLD, ReportTest
 
 
 class Launching(ReportTest):
@@ -16,10 +16,10 @@ class Launching(ReportTest):
         self.top = Path(self.folder.name)
 
     def put_program(self, folder: Path) -> None:
-        """A program that passes each answer, and notes in which folder it stands."""
+        """A program that passes each answer, and notes in which folder it is. It solves nothing."""
         folder.mkdir(parents=True, exist_ok=True)
         path = folder / "gasday"
-        path.write_text(f"#!/bin/sh\n[ \"$1\" != --version ] || {{ echo 'gasday 1.0.0 (of a test)'; exit; }}\n"
+        path.write_text(f"#!/bin/sh\n[ \"$1\" != --version ] || {{ echo 'gasday 1.0.0 (of a test)'; exit; }}\n{NO_SOLVE}"
                         f"echo '{folder.name}' >> '{self.top}/ran'\ncat > /dev/null\nprintf '{TWO_LINES_TOLD}'\n")
         path.chmod(0o755)
 
@@ -80,6 +80,13 @@ class Launching(ReportTest):
         # What is built is left as it is.
         self.put_program(repository / "crates" / "gasday" / "out")
         self.assertEqual(self.ran(report), ["out"])
+
+
+class Version(unittest.TestCase):
+    def test_each_tool_prints_its_version(self) -> None:
+        for tool in ("gasday-report", "gasday-import", "gasday-fleet"):
+            done = subprocess.run([sys.executable, TOP / "companion" / tool, "--version"], capture_output=True, text=True, timeout=600)
+            self.assertEqual((done.stdout, done.stderr, done.returncode), (f"{tool} 1.0 (companion of gasday; not proved)\n", "", 0))
 
 
 if __name__ == "__main__":

@@ -79,7 +79,7 @@ class Completing(unittest.TestCase):
         self.assertEqual(self.offers("gasday-report", "--format", ""), ["csv", "html", "json", "text"])
         self.assertEqual(self.offers("gasday-report", "--local", ""), [])
         self.assertEqual(self.offers("gasday-import", "--output", ""), ["a folder", "a text.csv"])
-        self.assertEqual(self.offers("gasday-fleet", ""), ["--help", "audit", "days", "study"])
+        self.assertEqual(self.offers("gasday-fleet", ""), ["--help", "--version", "audit", "days", "study"])
         self.assertEqual(self.offers("gasday-fleet", "days", "a"), ["a folder"])
         self.assertEqual(self.offers("gasday-fleet", "audit", "a"), ["a folder", "a text.csv"])
         self.assertEqual(self.offers("gasday-audit", "<", ""), ["a folder", "a text.csv"])
