@@ -11,7 +11,8 @@ LEAST_LETTERS, MOST_LETTERS = 10, 1000
 COMMON = Path(__file__).resolve().parent / "common_passwords.txt"
 # Runs of keys and letters; a part of one of these, forwards or backwards, is no password.
 RUNS = ("01234567890123456789", "abcdefghijklmnopqrstuvwxyzabcdefghij", "qwertyuiopasdfghjklzxcvbnm",
-        "qwertzuiopasdfghjklyxcvbnm", "azertyuiopqsdfghjklmwxcvbn", "1q2w3e4r5t6y7u8i9o0p", "q1w2e3r4t5y6u7i8o9p0", "1qaz2wsx3edc4rfv5tgb6yhn7ujm")
+        "qwertzuiopasdfghjklyxcvbnm", "azertyuiopqsdfghjklmwxcvbn", "1q2w3e4r5t6y7u8i9o0p", "q1w2e3r4t5y6u7i8o9p0",
+        "1qaz2wsx3edc4rfv5tgb6yhn7ujm")
 LIKE_LETTERS = str.maketrans("01345789@$!", "oleastbgasi")
 AROUND = re.compile(r"^[^a-z]+|[^a-z]+$")
 REPEATED = re.compile(r"(.{1,4})\1+.{0,3}", re.DOTALL)

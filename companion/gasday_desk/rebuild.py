@@ -17,7 +17,8 @@ def rebuild_book(journal: Journal, program: Program, file: Path) -> int:
     kept, entries = program.kept_by(file), journal.of_book(file.stem)
     lacking = missing(entries, kept.calls)
     if lacking:
-        raise Failed(f"{file.name} lacks call {lacking.number} as desk.db has it, so it is an older copy; bring back the right one")
+        raise Failed(f"{file.name} lacks call {lacking.number} as desk.db has it, so it is an older copy;"
+                     " bring back the right one")
     found = resolved(entries, kept.calls)
     journal.settle(found)
     known = {entry.number for entry in [*entries, *found]}
