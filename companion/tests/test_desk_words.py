@@ -9,8 +9,9 @@ import sys
 import tomllib
 import unittest
 
-from desk_helpers import BOOK, COMPANION, NO_PROGRAM, PROGRAM, DeskTest
+from desk_helpers import BOOK, COMPANION, DeskTest
 from desk_pages import DAY, PagesTest
+from helpers import GASDAY, needs_gasday
 
 import gasday_version
 from gasday_desk.command import main
@@ -151,11 +152,10 @@ class Written(PagesTest):
 
 
 class Faults(unittest.TestCase):
+    @needs_gasday
     def test_all_causes_have_words(self) -> None:
         """Those that the program's help names, but for what no day can have."""
-        if not PROGRAM.exists():
-            self.skipTest(NO_PROGRAM)
-        told = subprocess.run([PROGRAM, "--help"], capture_output=True, text=True).stdout
+        told = subprocess.run([GASDAY, "--help"], capture_output=True, text=True).stdout
         part = told[told.index("\nFaults:"):told.rindex("A fault of the command line")]
         named = set(re.findall(r"^  ([A-Z]\w+) {2,}", part, re.MULTILINE))
         others = {"BadField", "FloorAboveCeiling", "BadClass", "NoThread", "OldVersion"}

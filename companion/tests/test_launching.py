@@ -85,7 +85,7 @@ class Launching(ReportTest):
 class Version(unittest.TestCase):
     def test_each_tool_prints_its_version(self) -> None:
         for tool in ("gasday-report", "gasday-import", "gasday-fleet"):
-            words = [sys.executable, TOP / "companion" / tool, "--version"]
+            words = [sys.executable, str(TOP / "companion" / tool), "--version"]
             done = subprocess.run(words, capture_output=True, text=True, timeout=600)
             printed = f"{tool} 1.0 (companion of gasday; not proved)\n"
             self.assertEqual((done.stdout, done.stderr, done.returncode), (printed, "", 0))
