@@ -120,8 +120,9 @@ def try_report(trial: Trial) -> None:
 
 def try_fleet(trial: Trial) -> None:
     trial.put("scenarios.csv", SCENARIO.encode())
-    head = b"file,postings,verdict,told,seconds,sha256\n"
-    trial.run(head + b"kept/archive.db,2,sound,", "gasday-fleet", "audit", "kept/archive.db", "--serial")
+    told = trial.run(b"file,postings,verdict,told,seconds,sha256,", "gasday-fleet", "audit", "kept/archive.db", "--serial")
+    if b"\nkept/archive.db,2,sound," not in told:
+        raise Refused("gasday-fleet audit doesn't find the archive sound")
     told = trial.run(b"folder,day,verdict,", "gasday-fleet", "days", "kept", "--archive", "--serial")
     if b"\nkept,day,same,,2," not in told:
         raise Refused("gasday-fleet days doesn't find the gas day the same")

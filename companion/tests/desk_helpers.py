@@ -21,6 +21,8 @@ from gasday_desk.settings import User, write_users
 COMPANION = TOP / "companion"
 NO_FLASK = "Flask is not installed"
 HAS_FLASK = importlib.util.find_spec("flask") is not None
+needs_waitress = unittest.skipUnless(importlib.util.find_spec("waitress"),
+                                     "this Python has no waitress (apt-get install python3-waitress)")
 BOOK = "TEST-20260308"
 
 # The worked day of two cycles: the capacities are so that a firm line can bump an interruptible one.

@@ -7,7 +7,7 @@ import shutil
 import unittest
 from unittest import mock
 
-from desk_helpers import BOOK, USERS
+from desk_helpers import BOOK, USERS, needs_waitress
 from desk_pages import DAY, PagesTest
 
 from gasday_desk.command import main
@@ -112,6 +112,7 @@ class Journals(Lost):
             self.assertEqual(main(["rebuild", str(self.path), "--gasday", self.program]), 2)
         self.assertIn("another gasday-desk runs", told.getvalue())
 
+    @needs_waitress
     def test_a_damaged_desk_db(self) -> None:
         self.desk.close()
         for path in self.path.glob("desk.db*"):

@@ -12,7 +12,7 @@ import unittest
 from pathlib import Path
 from unittest import mock
 
-from desk_helpers import BOOK, COMPANION, PASSWORD, DeskTest
+from desk_helpers import BOOK, COMPANION, PASSWORD, DeskTest, needs_waitress
 from desk_pages import DAY, PagesTest
 
 from gasday_desk import command
@@ -302,6 +302,7 @@ class Bounded(PagesTest):
         for one in answers:
             one.close()
 
+    @needs_waitress
     def test_threads_are_left_for_schedulers(self) -> None:
         from gasday_desk.bounds import BOUNDS
         from gasday_desk.serving import THREADS
