@@ -131,7 +131,7 @@ def try_fleet(trial: Trial) -> None:
 
 def try_desk(trial: Trial) -> None:
     trial.run(b"", "gasday-desk", "init", "office")
-    words = ("user", "add", "office", "sam", "--party", "MYPIPE", "--role", "scheduler", "--stdin")
+    words = ("user", "add", "office", "sam", "--party", "MYPIPE", "--role", "scheduler", "--unnamed", "--stdin")
     trial.run(b"", "gasday-desk", *words, text=b"a long password\n")
 
 
