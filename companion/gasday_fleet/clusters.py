@@ -41,11 +41,11 @@ def silence() -> None:
 
 
 def dashboard_of(client: Any) -> str:
-    """Where a cluster's dashboard is; nothing where none is there, as where bokeh is not installed."""
+    """Where a cluster's dashboard is; nothing where none is there. Without bokeh there is a page that only asks for it."""
     link = str(getattr(client, "dashboard_link", "") or "")
     try:
         with urllib.request.build_opener(urllib.request.ProxyHandler({})).open(link, timeout=SECONDS_TO_ANSWER) as page:
-            return link if page.status == 200 else ""
+            return link if page.status == 200 and b"needs bokeh" not in page.read() else ""
     except (OSError, ValueError):
         return ""
 
