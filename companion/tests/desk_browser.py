@@ -10,6 +10,7 @@ exit status is 0 only where all was as it has to be.
 """
 
 import contextlib
+import logging
 import os
 import sys
 import tempfile
@@ -95,6 +96,8 @@ def served(desk: Desk) -> Iterator[str]:
         yield f"http://127.0.0.1:{server.effective_port}"
     finally:
         desk.close()
+        # (a thread that still answers would write to what is closed)
+        server.task_dispatcher.shutdown()
         server.close()
 
 
@@ -354,6 +357,8 @@ def receipts(people: People) -> list[str]:
 
 
 def main() -> int:
+    # Who turns pages fast has more of them waiting for events than one user may; a page that gets none asks again later.
+    logging.basicConfig(level=logging.ERROR)
     program = os.path.abspath(sys.argv[1])
     pictures = Path(sys.argv[2]) if len(sys.argv) > 2 else None
     if pictures:

@@ -1,4 +1,4 @@
-"""Properties of gasday-import, over many texts made by Hypothesis; test_import_properties.py runs these. Midnight of the gas
+"""Properties of gasday-import, over many texts made by Hypothesis; test_properties.py runs these. Midnight of the gas
 day is what `date` gives for it, and serial dates count days from 1899-12-30."""
 
 import importlib

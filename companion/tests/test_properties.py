@@ -1,4 +1,4 @@
-"""Runs import_properties.py by a Python that has Hypothesis: this one, or Debian's own."""
+"""Runs import_properties.py and reason_properties.py by a Python that has Hypothesis: this one, or Debian's own."""
 
 import os
 import shutil
@@ -22,15 +22,21 @@ def python_of_properties() -> str | None:
     return None
 
 
+@unittest.skipUnless(python_of_properties(), NO_HYPOTHESIS)
 class Properties(unittest.TestCase):
-    @unittest.skipUnless(python_of_properties(), NO_HYPOTHESIS)
-    def test_properties(self) -> None:
+    def test_import(self) -> None:
+        self.run_module("import_properties")
+
+    def test_reasons(self) -> None:
+        self.run_module("reason_properties")
+
+    def run_module(self, name: str) -> None:
         with tempfile.TemporaryDirectory() as folder:
             environment = {**os.environ, "PYTHONPATH": str(HERE), "PYTHONDONTWRITEBYTECODE": "1"}
-            done = subprocess.run([python_of_properties() or "", "-m", "unittest", "import_properties"], cwd=folder,
+            done = subprocess.run([python_of_properties() or "", "-m", "unittest", name], cwd=folder,
                                   env=environment, capture_output=True, text=True, timeout=1200)
         self.assertEqual(done.returncode, 0, done.stderr)
-        self.assertRegex(done.stderr, r"Ran [1-9][0-9]* tests")
+        self.assertRegex(done.stderr, r"Ran [1-9][0-9]* tests?")
 
 
 if __name__ == "__main__":
